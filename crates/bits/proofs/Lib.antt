@@ -1,0 +1,8 @@
+-- The laws of fields, lanes, loops, sets of lanes and words: over bytes and lanes alone, for any place, width and lane.
+pub mod Tests
+pub mod Number
+pub mod Places
+pub mod Loops
+pub mod Lanes
+pub mod Masks
+pub mod Words

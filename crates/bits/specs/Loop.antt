@@ -1,0 +1,30 @@
+-- Loops over the numbers below a count, ascending.
+use Prim.Native.Nat.{ℕ, zero, suc}
+use mathlib.Core.Bool.{Bool, true, false}
+use mathlib.Core.List.{List, [], _∷_}
+use Rattle.bits.specs.Choice.{pick, onlyIf, both, either}
+
+-- the change f at each number below n that passes the test
+unfoldable pub each {ℓ} : {A : Type ℓ} → (ℕ → Bool) → (ℕ → A → A) → ℕ → A → A
+each c f zero a = a
+each c f (suc n) a = onlyIf (c n) (f n) (each c f n a)
+
+-- the values of f at the numbers below n
+unfoldable pub tab {ℓ} : {A : Type ℓ} → ℕ → (ℕ → A) → List A
+tab zero f = []
+tab (suc n) f = f 0 ∷ tab n (λ k. f (suc k))
+
+-- a number below n passes the test
+unfoldable pub anyBelow : ℕ → (ℕ → Bool) → Bool
+anyBelow zero p = false
+anyBelow (suc n) p = either (anyBelow n p) (p n)
+
+-- every number below n passes the test
+unfoldable pub allBelow : ℕ → (ℕ → Bool) → Bool
+allBelow zero p = true
+allBelow (suc n) p = both (allBelow n p) (p n)
+
+-- the lowest of the `left` numbers from k on that passes, else the number after them
+unfoldable pub seek : ℕ → ℕ → (ℕ → Bool) → ℕ
+seek zero k p = k
+seek (suc left) k p = pick (p k) k (seek left (suc k) p)
