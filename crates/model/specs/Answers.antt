@@ -1,0 +1,21 @@
+-- The answers and their numbers (01 "When the desk says no").
+use Prim.Native.Nat.{ℕ}
+use mathlib.Core.Bool.{Bool, true, false}
+use lib.Dec.{eqb}
+use Rattle.model.specs.declared.answer.Answer.{Answer}
+use Rattle.model.specs.declared.answer.Answer.the-variants.{Done, WrongLength, FlatMemory, Unsound, BadAccess, ShortBuffer, NothingToDo, Busy, NoSuchPlace, Malformed}
+
+abbrev pub number : Answer → ℕ
+number Done = 0
+number WrongLength = 1
+number FlatMemory = 2
+number Unsound = 3
+number BadAccess = 4
+number ShortBuffer = 5
+number NothingToDo = 6
+number Busy = 7
+number NoSuchPlace = 8
+number Malformed = 9
+
+unfoldable pub isDone : Answer → Bool
+isDone a = eqb (number a) 0

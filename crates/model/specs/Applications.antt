@@ -1,0 +1,43 @@
+-- Applications and their descriptors (01 "Triggers and verdicts"; 002 table 8-22).
+use Prim.Native.Nat.{ℕ, _+_, _*_, _-_}
+use mathlib.Core.Bool.{Bool, not}
+use lib.Dec.{eqb, leb}
+use lib.ListN.{getD}
+use Rattle.bits.specs.Choice.{pick, both}
+use Rattle.bits.specs.Loop.{allBelow}
+use Rattle.bits.specs.Number.{field}
+use Rattle.model.specs.Map.{Image, descriptors}
+use Rattle.model.specs.declared.application.Descriptor.{Descriptor}
+use Rattle.model.specs.declared.application.Lookup.{Lookup}
+use Rattle.model.specs.declared.application.Lookup.the-variants.{Missing, Found}
+
+abbrev pub applicationCount : ℕ
+applicationCount = 8
+
+-- AppSel is a nibble: the view looks up each value that it can have
+abbrev pub appSelCount : ℕ
+appSelCount = 16
+
+-- the first byte of descriptor a, counted from 1
+unfoldable pub descriptorAt : ℕ → ℕ
+descriptorAt a = descriptors + 4 * (a - 1)
+
+abbrev pub endOfList : ℕ
+endOfList = 0xff
+
+-- no descriptor from 1 to a begins with FFh
+unfoldable pub listReaches : Image → ℕ → Bool
+listReaches x a = allBelow a (λ k. not (eqb (getD x (descriptorAt (k + 1)) 0) endOfList))
+
+-- host lane count in bits 7-4 of the third byte
+unfoldable pub hostLaneCount : Image → ℕ → ℕ
+hostLaneCount x a = field (getD x (descriptorAt a + 2) 0) 4 4
+
+unfoldable pub isPresent : Image → ℕ → Bool
+isPresent x a =
+    both (both (leb 1 a) (leb a applicationCount))
+    (both (listReaches x a) (both (leb 1 (hostLaneCount x a)) (leb (hostLaneCount x a) 8)))
+
+unfoldable pub lookup : Image → ℕ → Lookup
+lookup x a =
+    pick (isPresent x a) (Found (record { count = hostLaneCount x a; firsts = getD x (descriptorAt a + 3) 0 })) Missing

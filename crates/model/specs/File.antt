@@ -1,0 +1,122 @@
+-- The night file: header, image, records (01 "The night file").
+use Prim.Native.Nat.{ℕ, _+_, _*_}
+use mathlib.Core.Bool.{Bool, not}
+use mathlib.Core.List.{List, [], _∷_}
+use lib.Dec.{eqb, leb, ltb}
+use lib.ListN.{length, getD, take, drop}
+use Rattle.bits.specs.Choice.{pick, both, implies}
+use Rattle.bits.specs.Loop.{tab, allBelow}
+use Rattle.bits.specs.Word.{word}
+use Rattle.model.specs.Map.{Image, imageLength}
+use Rattle.model.specs.Refusals.{isFlat}
+use Rattle.model.specs.declared.event.Call.{Call}
+use Rattle.model.specs.declared.event.Call.the-variants.{Write, Read, Work, Hardware, Condition, Sample}
+use Rattle.model.specs.declared.event.Event.{Event}
+use Rattle.model.specs.declared.file.FileCheck.{FileCheck}
+use Rattle.model.specs.declared.file.FileCheck.the-variants.{Malformed, FlatMemory, Good}
+
+-- ---- the header: "WL", edition, 0, then three numbers of four bytes
+
+abbrev pub edition : ℕ
+edition = 1
+
+abbrev pub imageOffset : ℕ
+imageOffset = 16
+
+abbrev pub recordsOffset : ℕ
+recordsOffset = 784
+
+abbrev pub recordLength : ℕ
+recordLength = 12
+
+abbrev pub recordLimit : ℕ
+recordLimit = 5000
+
+unfoldable pub recordCount : List ℕ → ℕ
+recordCount file = word 4 file 4
+
+unfoldable pub isHeader : List ℕ → Bool
+isHeader file =
+    both (both (eqb (getD file 0 0) 0x57) (eqb (getD file 1 0) 0x4c))
+    (both (both (eqb (getD file 2 0) edition) (eqb (getD file 3 0) 0))
+    (both (leb (recordCount file) recordLimit) (both (eqb (word 4 file 8) imageOffset) (eqb (word 4 file 12) recordsOffset))))
+
+unfoldable pub isWholeLength : List ℕ → Bool
+isWholeLength file = eqb (length file) (recordsOffset + recordLength * recordCount file)
+
+-- ---- the image
+
+unfoldable pub imageIn : List ℕ → Image
+imageIn file = take imageLength (drop imageOffset file)
+
+-- ---- the records
+
+-- byte j of record k
+unfoldable pub recordByte : List ℕ → ℕ → ℕ → ℕ
+recordByte file k j = getD file (recordsOffset + recordLength * k + j) 0
+
+abbrev pub kindOf : List ℕ → ℕ → ℕ
+kindOf file k = recordByte file k 0
+
+abbrev pub writeKind : ℕ
+writeKind = 1
+
+abbrev pub readKind : ℕ
+readKind = 2
+
+abbrev pub workKind : ℕ
+workKind = 3
+
+abbrev pub hardwareKind : ℕ
+hardwareKind = 4
+
+abbrev pub conditionKind : ℕ
+conditionKind = 5
+
+abbrev pub sampleKind : ℕ
+sampleKind = 6
+
+-- a record carries at most 8 data bytes, from its third on
+abbrev pub dataStart : ℕ
+dataStart = 3
+
+abbrev pub dataLimit : ℕ
+dataLimit = 8
+
+-- how many of a record's bytes its kind uses; none for a kind that is not listed
+unfoldable pub usedBytes : List ℕ → ℕ → ℕ
+usedBytes file k =
+    pick (eqb (kindOf file k) writeKind) (dataStart + pick (ltb dataLimit (recordByte file k 2)) dataLimit (recordByte file k 2))
+    (pick (eqb (kindOf file k) readKind) 3
+    (pick (eqb (kindOf file k) workKind) 2
+    (pick (eqb (kindOf file k) hardwareKind) 2
+    (pick (eqb (kindOf file k) conditionKind) 3
+    (pick (eqb (kindOf file k) sampleKind) 4 0)))))
+
+-- a listed kind, and zeros in the bytes that it does not use
+unfoldable pub isRecord : List ℕ → ℕ → Bool
+isRecord file k =
+    both (ltb 0 (usedBytes file k)) (allBelow recordLength (λ j. implies (leb (usedBytes file k) j) (eqb (recordByte file k j) 0)))
+
+unfoldable pub callAt : List ℕ → ℕ → Call
+callAt file k =
+    pick (eqb (kindOf file k) writeKind) (Write (recordByte file k 1) (recordByte file k 2))
+    (pick (eqb (kindOf file k) readKind) (Read (recordByte file k 1) (recordByte file k 2))
+    (pick (eqb (kindOf file k) workKind) (Work (recordByte file k 1))
+    (pick (eqb (kindOf file k) hardwareKind) (Hardware (recordByte file k 1))
+    (pick (eqb (kindOf file k) conditionKind) (Condition (recordByte file k 1) (recordByte file k 2))
+    (Sample (recordByte file k 1) (recordByte file k 2 * 256 + recordByte file k 3))))))
+
+unfoldable pub eventAt : List ℕ → ℕ → Event
+eventAt file k = record { call = callAt file k; bytes = tab dataLimit (λ j. recordByte file k (dataStart + j)) }
+
+unfoldable pub eventsIn : List ℕ → List Event
+eventsIn file = tab (recordCount file) (eventAt file)
+
+-- ---- the check of the whole file: malformed first, then flat
+
+unfoldable pub isWellFormed : List ℕ → Bool
+isWellFormed file = both (both (isHeader file) (isWholeLength file)) (allBelow (recordCount file) (isRecord file))
+
+unfoldable pub checked : List ℕ → FileCheck
+checked file = pick (isWellFormed file) (pick (isFlat (imageIn file)) FlatMemory (Good (recordCount file))) Malformed

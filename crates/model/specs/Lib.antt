@@ -1,0 +1,25 @@
+-- What the module is and does, said once. Read top to bottom beside document 01.
+pub mod Map
+pub mod Statuses
+pub mod PathStates
+pub mod Answers
+pub mod Lanes
+pub mod Applications
+pub mod View
+pub mod Groups
+pub mod Verdicts
+pub mod Triggers
+pub mod Work
+pub mod Hardware
+pub mod Flags
+pub mod Pages
+pub mod Access
+pub mod Start
+pub mod Sound
+pub mod Refusals
+pub mod Step
+pub mod Outcome
+pub mod File
+pub mod Text
+pub mod Night
+pub mod Cases

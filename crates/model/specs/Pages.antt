@@ -1,0 +1,54 @@
+-- Page selection (01 "Host accesses").
+use Prim.Native.Nat.{ℕ, _+_, _-_}
+use mathlib.Core.Bool.{Bool, true, false, not}
+use mathlib.Core.List.{List, [], _∷_}
+use lib.Dec.{eqb, ltb}
+use lib.ListN.{getD, set}
+use Rattle.bits.specs.Choice.{pick, both, implies}
+use Rattle.model.specs.Map.{Image, page00, page01, page02, page10, page11, on, bankSelect, pageSelect}
+use Rattle.model.specs.declared.page.PagePlace.{PagePlace}
+use Rattle.model.specs.declared.page.PagePlace.the-variants.{Unsupported, At}
+
+-- a page that the module has: its number, whether it needs bank 0, and where it starts in the image
+pub record Page : Type 0 where
+  pub number : ℕ
+  pub banked : Bool
+  pub start : ℕ
+
+abbrev pub pages : List Page
+pages =
+    record { number = 0x00; banked = false; start = page00 }
+    ∷ record { number = 0x01; banked = false; start = page01 }
+    ∷ record { number = 0x02; banked = false; start = page02 }
+    ∷ record { number = 0x10; banked = true; start = page10 }
+    ∷ record { number = 0x11; banked = true; start = page11 }
+    ∷ []
+
+-- the page of a number, in a bank
+unfoldable pub findPage : List Page → ℕ → ℕ → PagePlace
+findPage [] bank page = Unsupported
+findPage (p ∷ ps) bank page =
+    pick (both (eqb page (p .number)) (implies (p .banked) (eqb bank 0))) (At (p .start)) (findPage ps bank page)
+
+unfoldable pub pagePlace : ℕ → ℕ → PagePlace
+pagePlace bank page = findPage pages bank page
+
+-- where the upper half starts: on the selected page, or on page 00h where it is not supported
+abbrev pub upperStart : PagePlace → ℕ
+upperStart Unsupported = page00
+upperStart (At start) = start
+
+unfoldable pub selectedStart : Image → ℕ
+selectedStart x = upperStart (pagePlace (getD x bankSelect 0) (getD x pageSelect 0))
+
+-- the place in the image of an address that a host names
+unfoldable pub placeOf : Image → ℕ → ℕ
+placeOf x address = pick (ltb address 128) address (selectedStart x + (address - 128))
+
+-- a byte written to 127: a page that is not supported resets 126 and 127
+abbrev pub withPage : PagePlace → ℕ → Image → Image
+withPage Unsupported page x = set (set x bankSelect 0) pageSelect 0
+withPage (At start) page x = set x pageSelect page
+
+unfoldable pub pageSelected : ℕ → Image → Image
+pageSelected page x = withPage (pagePlace (getD x bankSelect 0) page) page x

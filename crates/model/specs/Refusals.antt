@@ -1,0 +1,76 @@
+-- The refusals of every call, in their order 1, 2, 3, 4, 8, 5, 7, 6 (01 "When the desk says no").
+use Prim.Native.Nat.{ℕ}
+use mathlib.Core.Bool.{Bool, not}
+use mathlib.Core.List.{List, [], _∷_, _++_}
+use lib.Dec.{eqb, ltb}
+use lib.ListN.{length}
+use Rattle.bits.specs.Choice.{pick, either}
+use Rattle.bits.specs.Place.{get}
+use Rattle.bits.specs.Sets.{has}
+use Rattle.model.specs.Map.{Image, imageLength, laneCount, flatBit, activeSet}
+use Rattle.model.specs.Lanes.{stageAt, isInProgress, anyInProgress}
+use Rattle.model.specs.View.{settingsOf, of, isUsed, pathOf}
+use Rattle.model.specs.Triggers.{State}
+use Rattle.model.specs.Flags.{isConditionFlag}
+use Rattle.model.specs.Access.{isBadAccess, writeLimit, readLimit}
+use Rattle.model.specs.Sound.{isSound}
+use Rattle.model.specs.declared.answer.Answer.{Answer}
+use Rattle.model.specs.declared.answer.Answer.the-variants.{Done, WrongLength, FlatMemory, Unsound, BadAccess, ShortBuffer, NothingToDo, Busy, NoSuchPlace}
+use Rattle.model.specs.declared.event.Call.{Call}
+use Rattle.model.specs.declared.event.Call.the-variants.{Write, Read, Work, Hardware, Condition, Sample}
+
+pub record Refusal : Type 0 where
+  pub answer : Answer
+  pub when : Bool
+
+abbrev pub refuse : Answer → Bool → Refusal
+refuse a c = record { answer = a; when = c }
+
+-- the first refusal whose condition holds; done where none does
+unfoldable pub firstOf : List Refusal → Answer
+firstOf [] = Done
+firstOf (r ∷ rs) = pick (r .when) (r .answer) (firstOf rs)
+
+-- ---- the conditions
+
+unfoldable pub isFlat : Image → Bool
+isFlat x = eqb (get x flatBit) 1
+
+unfoldable pub wrongLength : Image → Bool
+wrongLength x = not (eqb (length x) imageLength)
+
+unfoldable pub noSuchLane : ℕ → Bool
+noSuchLane l = not (ltb l laneCount)
+
+-- the lane is in progress, or its path has such a lane
+unfoldable pub isBusy : State → ℕ → Bool
+isBusy s l =
+    either (isInProgress (stageAt (s .working) l))
+    (anyInProgress (s .working) (has (pathOf (settingsOf activeSet (s .image)) l)))
+
+unfoldable pub isUnused : State → ℕ → Bool
+isUnused s l = not (isUsed (of (settingsOf activeSet (s .image)) l))
+
+-- ---- the lists
+
+unfoldable pub startRefusals : Image → List Refusal
+startRefusals x = refuse WrongLength (wrongLength x) ∷ refuse FlatMemory (isFlat x) ∷ []
+
+-- asked once of a call, or once of a whole list of events
+unfoldable pub entryRefusals : State → List Refusal
+entryRefusals s = startRefusals (s .image) ++ (refuse Unsound (not (isSound s)) ∷ [])
+
+-- asked of an event; room is the length of the buffer that a read is lent
+unfoldable pub eventRefusals : ℕ → State → Call → List Refusal
+eventRefusals room s (Write address count) = refuse BadAccess (isBadAccess writeLimit address count) ∷ []
+eventRefusals room s (Read address count) =
+    refuse BadAccess (isBadAccess readLimit address count) ∷ refuse ShortBuffer (ltb room count) ∷ []
+eventRefusals room s (Work l) = refuse NoSuchPlace (noSuchLane l) ∷ refuse NothingToDo (not (isInProgress (stageAt (s .working) l))) ∷ []
+eventRefusals room s (Hardware l) =
+    refuse NoSuchPlace (noSuchLane l) ∷ refuse Busy (isBusy s l) ∷ refuse NothingToDo (isUnused s l) ∷ []
+eventRefusals room s (Condition flag mask) = refuse NoSuchPlace (not (isConditionFlag flag)) ∷ []
+eventRefusals room s (Sample l p) = refuse NoSuchPlace (noSuchLane l) ∷ []
+
+-- asked of a list of events; room is the length of the answer buffer
+unfoldable pub listRefusals : ℕ → State → ℕ → List Refusal
+listRefusals room s count = entryRefusals s ++ (refuse ShortBuffer (ltb room count) ∷ [])

@@ -1,0 +1,17 @@
+// Events: what can happen to the module.
+
+// What is asked, with its arguments. Power is in tenths of a microwatt.
+pub enum Call {
+    Write { address: u8, count: u8 },
+    Read { address: u8, count: u8 },
+    Work { lane: u8 },
+    Hardware { lane: u8 },
+    Condition { flag: u8, mask: u8 },
+    Sample { lane: u8, power: u16 },
+}
+
+// An event: the call, and beside it the bytes that a write carries.
+pub struct Event {
+    pub call: Call,
+    pub bytes: [u8; 8],
+}

@@ -1,0 +1,70 @@
+// Lanes: the record that each keeps of its Apply, and the working state that holds the eight of them.
+ghost use mathlib.Core.Path.{_≡_};
+ghost use Rattle.model.specs.Lanes.{idleRecord, idleWorking};
+
+// The settings of one lane, a number for each of its fields.
+pub struct Settings {
+    pub config: u8,
+    pub adaptive: u8,
+    pub equalizer: u8,
+    pub cdr_tx: u8,
+    pub cdr_rx: u8,
+    pub pre: u8,
+    pub post: u8,
+    pub amplitude: u8,
+}
+
+// Which trigger began an Apply.
+pub enum Trigger {
+    DpInit,
+    Immediate,
+}
+
+// What was decided at the trigger: a pass with the lane to be copied next (the lane count where none is left), or a rejection with its code.
+pub enum Verdict {
+    Pass(u8),
+    Reject(u8),
+}
+
+// An Apply under way on a lane: the lanes of its group, the settings held for this lane, the trigger and the verdict.
+pub struct Progress {
+    pub group: u8,
+    pub held: Settings,
+    pub trigger: Trigger,
+    pub verdict: Verdict,
+}
+
+// The stage that a lane's Apply has reached.
+pub enum Stage {
+    Idle,
+    InProgress(Progress),
+}
+
+// What is kept of one lane beside its registers.
+pub struct LaneRecord {
+    pub stage: Stage,
+}
+
+impl LaneRecord {
+    pub const COUNT: u8 = 8;
+
+    pub fn idle() -> Self
+        ensures { λ r. ⌜ r ≡ idleRecord ⌝ }
+    {
+        LaneRecord { stage: Stage::Idle }
+    }
+}
+
+// What the module keeps beside its image.
+pub struct Working {
+    pub lanes: [LaneRecord; 8],
+}
+
+impl Working {
+    pub fn idle() -> Self
+        ensures { λ r. ⌜ r ≡ idleWorking ⌝ }
+    {
+        let record = LaneRecord::idle();
+        Working { lanes: [record; 8] }
+    }
+}
