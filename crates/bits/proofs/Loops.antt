@@ -6,6 +6,7 @@ use mathlib.Core.Logic.{_≢_}
 use Prim.Native.Nat.{ℕ, zero, suc, _+_, _%_, _^_, _≤_, _<_, zero-le, suc-le-suc}
 use native.Mathlib.Nat.{le-of-suc-le-suc, not-suc-le-zero}
 use native.Mathlib.Decide.{ℕ-discrete}
+use native.Mathlib.Numerals.{add-one}
 use native.Mathlib.Omega.{arith}
 use lib.ListN.{length, getD, set, length-set}
 use lib.Seq.{getD-set-same, getD-set-other, ext-getD}
@@ -13,7 +14,7 @@ use Rattle.bits.specs.declared.Place.{Place}
 use Rattle.bits.specs.Choice.{pick, onlyIf, both, either}
 use Rattle.bits.specs.Place.{get, put, apart}
 use Rattle.bits.specs.Loop.{each, tab, anyBelow, allBelow, seek}
-use Rattle.bits.proofs.Tests.{split, clash, both-l, both-r, both-i, either-l, either-r, pick-true, pick-false}
+use Rattle.bits.proofs.Tests.{split, clash, both-l, both-r, both-i, either-l, either-r, pick-true, pick-false, only-true, only-false}
 use Rattle.bits.proofs.Places.{length-put, get-put, get-apart}
 
 -- ---- each
@@ -46,6 +47,19 @@ module _ {ℓ} {A : Type ℓ} (c : ℕ → Bool) (f : ℕ → A → A) where
 
   pub each-none : (n : ℕ) (x : A) → ((k : ℕ) → k < n → c k ≡ false) → each c f n x ≡ x
   each-none n x h = each-skip (λ y. y) n x (λ k y b e. absurd (clash e (h k b)))
+
+  -- a turn of a loop in code: what it has done below n, and at n
+  pub each-begin : (x : A) → x ≡ each c f 0 x
+  unfolding each
+  each-begin x = refl
+
+  pub each-turn : (n : ℕ) (x y : A) → y ≡ each c f n x → c n ≡ true → f n y ≡ each c f (n + 1) x
+  unfolding each
+  each-turn n x y h e = rw (add-one n, only-true (f n) (each c f n x) e, h)
+
+  pub each-pass : (n : ℕ) (x y : A) → y ≡ each c f n x → c n ≡ false → y ≡ each c f (n + 1) x
+  unfolding each
+  each-pass n x y h e = rw (add-one n, only-false (f n) (each c f n x) e) h
 
   -- what no step after the one at m changes is as that one left it
   pub each-hit {ℓ′} : {B : Type ℓ′} (g : A → B) (m n : ℕ) (x : A) → m < n → c m ≡ true

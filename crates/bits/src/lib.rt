@@ -6,6 +6,7 @@ ghost use mir.Val.{boolByte};
 ghost use Rattle.bits.specs.Number.{field, withField};
 ghost use Rattle.bits.specs.Place.{get, put};
 ghost use Rattle.bits.specs.Lane.{laneField};
+ghost use Rattle.bits.specs.Loop.{each};
 ghost use Rattle.bits.specs.Sets.{has, nextIn};
 ghost use Rattle.bits.specs.Word.{word, putWord};
 
@@ -188,4 +189,16 @@ pub fn put_word2(bytes: &mut [u8], at: usize, v: u16)
 {
     bytes[at] = (v / 256) as u8;
     bytes[at + 1] = (v % 256) as u8;
+}
+
+// v put into the field of each lane of a set.
+pub fn put_each(image: &mut [u8], base: usize, width: u8, set: u8, v: u8)
+    requires { ⌜ (base + width ≤ length (now image)) × (8 % width ≡ 0) ⌝ }
+    ensures { λ _. ⌜ now (image .exit) ≡ each (has set) (λ l y. put y (laneField base width l) v) 8 (now (image .entry)) ⌝ }
+{
+    for lane in 0..8u8 {
+        if is_in(set, lane) {
+            put_lane(image, base, width, lane, v);
+        }
+    }
 }
