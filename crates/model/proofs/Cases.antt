@@ -27,12 +27,16 @@ use Rattle.model.specs.Step.{readAt, carried, done, refused, answered, s
 use Rattle.model.specs.File.{recordCount, isHeader, isWholeLength, imageIn, recordByte, usedBytes, isRecord, callAt, eventAt, eventsIn, isWellFormed, checked}
 use Rattle.model.specs.Text.{ascii, digitText, decimalUpTo, decimal, hexBytes, line, badLine}
 use Rattle.model.specs.Night.{linesFrom, nightOf, printedBy, printed}
-use Rattle.model.specs.Cases.{sameBytes, linesOf, holds, allHold, blank, holding, fourLanes, applied, starred, worked}
+use Rattle.model.specs.Cases.{sameBytes, linesOf, holds, allHold, blank, holding, fourLanes, applied, recordOf, padded, recordsOf, headerOf, fileOf, allPrint, flat, starred, worked, files}
 
 pub starred-hold : T (allHold starred)
-unfolding pick onlyIf both either implies field withField get put digit laneField each tab anyBelow allBelow seek has maskOf nextIn word putWord settingAt inRanges writable clearing kept stateOf resting commissioned isDone isInProgress isPass isPassing heldIn anyInProgress withStage withStages freed withVerdict advanced descriptorAt listReaches hostLaneCount isPresent lookup appSel pathId explicit settingsAt settingValues limitsOf settingsOf statesOf applicationsOf viewOf isUsed samePath pathOf within joined releasedWith inGroup groupOf someIn everyIn otherAppSel misplaced incomplete crossing outOfLimits unsupported tooLate wrongState applyBy applyVerdict pathRelease releaseVerdict verdictOf withStatus isMarked markedStage stageAfter marked isIgnored triggered byModule written withActive copyLane copyNext copyGroup isRelease withPending pendingAfter commissionMask closed closedPass copied workedBy workedOn workStep toDeinit toReinit nextState isState withState withFlags initialized entered moved movedPath hardwareMoved isConditionFlag conditionSet raised sampled isUnmasked interrupts settled findPage pagePlace selectedStart placeOf pageSelected stored byteWritten bytesWritten shown taken cleared halfEnd isBadAccess isStateByte startValue startByte started firstOf isFlat noSuchLane isBusy isUnused eventRefusals readAt carried done refused answered step run recordCount isHeader isWholeLength imageIn recordByte usedBytes isRecord callAt eventAt eventsIn isWellFormed checked ascii digitText decimalUpTo decimal hexBytes line badLine linesFrom nightOf printedBy printed sameBytes linesOf holds allHold blank holding fourLanes applied
+unfolding pick onlyIf both either implies field withField get put digit laneField each tab anyBelow allBelow seek has maskOf nextIn word putWord settingAt inRanges writable clearing kept stateOf resting commissioned isDone isInProgress isPass isPassing heldIn anyInProgress withStage withStages freed withVerdict advanced descriptorAt listReaches hostLaneCount isPresent lookup appSel pathId explicit settingsAt settingValues limitsOf settingsOf statesOf applicationsOf viewOf isUsed samePath pathOf within joined releasedWith inGroup groupOf someIn everyIn otherAppSel misplaced incomplete crossing outOfLimits unsupported tooLate wrongState applyBy applyVerdict pathRelease releaseVerdict verdictOf withStatus isMarked markedStage stageAfter marked isIgnored triggered byModule written withActive copyLane copyNext copyGroup isRelease withPending pendingAfter commissionMask closed closedPass copied workedBy workedOn workStep toDeinit toReinit nextState isState withState withFlags initialized entered moved movedPath hardwareMoved isConditionFlag conditionSet raised sampled isUnmasked interrupts settled findPage pagePlace selectedStart placeOf pageSelected stored byteWritten bytesWritten shown taken cleared halfEnd isBadAccess isStateByte startValue startByte started firstOf isFlat noSuchLane isBusy isUnused eventRefusals readAt carried done refused answered step run recordCount isHeader isWholeLength imageIn recordByte usedBytes isRecord callAt eventAt eventsIn isWellFormed checked ascii digitText decimalUpTo decimal hexBytes line badLine linesFrom nightOf printedBy printed sameBytes linesOf holds allHold blank holding fourLanes applied recordOf padded recordsOf headerOf fileOf allPrint flat
 starred-hold = tt
 
 pub worked-hold : T (allHold worked)
-unfolding pick onlyIf both either implies field withField get put digit laneField each tab anyBelow allBelow seek has maskOf nextIn word putWord settingAt inRanges writable clearing kept stateOf resting commissioned isDone isInProgress isPass isPassing heldIn anyInProgress withStage withStages freed withVerdict advanced descriptorAt listReaches hostLaneCount isPresent lookup appSel pathId explicit settingsAt settingValues limitsOf settingsOf statesOf applicationsOf viewOf isUsed samePath pathOf within joined releasedWith inGroup groupOf someIn everyIn otherAppSel misplaced incomplete crossing outOfLimits unsupported tooLate wrongState applyBy applyVerdict pathRelease releaseVerdict verdictOf withStatus isMarked markedStage stageAfter marked isIgnored triggered byModule written withActive copyLane copyNext copyGroup isRelease withPending pendingAfter commissionMask closed closedPass copied workedBy workedOn workStep toDeinit toReinit nextState isState withState withFlags initialized entered moved movedPath hardwareMoved isConditionFlag conditionSet raised sampled isUnmasked interrupts settled findPage pagePlace selectedStart placeOf pageSelected stored byteWritten bytesWritten shown taken cleared halfEnd isBadAccess isStateByte startValue startByte started firstOf isFlat noSuchLane isBusy isUnused eventRefusals readAt carried done refused answered step run recordCount isHeader isWholeLength imageIn recordByte usedBytes isRecord callAt eventAt eventsIn isWellFormed checked ascii digitText decimalUpTo decimal hexBytes line badLine linesFrom nightOf printedBy printed sameBytes linesOf holds allHold blank holding fourLanes applied
+unfolding pick onlyIf both either implies field withField get put digit laneField each tab anyBelow allBelow seek has maskOf nextIn word putWord settingAt inRanges writable clearing kept stateOf resting commissioned isDone isInProgress isPass isPassing heldIn anyInProgress withStage withStages freed withVerdict advanced descriptorAt listReaches hostLaneCount isPresent lookup appSel pathId explicit settingsAt settingValues limitsOf settingsOf statesOf applicationsOf viewOf isUsed samePath pathOf within joined releasedWith inGroup groupOf someIn everyIn otherAppSel misplaced incomplete crossing outOfLimits unsupported tooLate wrongState applyBy applyVerdict pathRelease releaseVerdict verdictOf withStatus isMarked markedStage stageAfter marked isIgnored triggered byModule written withActive copyLane copyNext copyGroup isRelease withPending pendingAfter commissionMask closed closedPass copied workedBy workedOn workStep toDeinit toReinit nextState isState withState withFlags initialized entered moved movedPath hardwareMoved isConditionFlag conditionSet raised sampled isUnmasked interrupts settled findPage pagePlace selectedStart placeOf pageSelected stored byteWritten bytesWritten shown taken cleared halfEnd isBadAccess isStateByte startValue startByte started firstOf isFlat noSuchLane isBusy isUnused eventRefusals readAt carried done refused answered step run recordCount isHeader isWholeLength imageIn recordByte usedBytes isRecord callAt eventAt eventsIn isWellFormed checked ascii digitText decimalUpTo decimal hexBytes line badLine linesFrom nightOf printedBy printed sameBytes linesOf holds allHold blank holding fourLanes applied recordOf padded recordsOf headerOf fileOf allPrint flat
 worked-hold = tt
+
+pub files-print : T (allPrint files)
+unfolding pick onlyIf both either implies field withField get put digit laneField each tab anyBelow allBelow seek has maskOf nextIn word putWord settingAt inRanges writable clearing kept stateOf resting commissioned isDone isInProgress isPass isPassing heldIn anyInProgress withStage withStages freed withVerdict advanced descriptorAt listReaches hostLaneCount isPresent lookup appSel pathId explicit settingsAt settingValues limitsOf settingsOf statesOf applicationsOf viewOf isUsed samePath pathOf within joined releasedWith inGroup groupOf someIn everyIn otherAppSel misplaced incomplete crossing outOfLimits unsupported tooLate wrongState applyBy applyVerdict pathRelease releaseVerdict verdictOf withStatus isMarked markedStage stageAfter marked isIgnored triggered byModule written withActive copyLane copyNext copyGroup isRelease withPending pendingAfter commissionMask closed closedPass copied workedBy workedOn workStep toDeinit toReinit nextState isState withState withFlags initialized entered moved movedPath hardwareMoved isConditionFlag conditionSet raised sampled isUnmasked interrupts settled findPage pagePlace selectedStart placeOf pageSelected stored byteWritten bytesWritten shown taken cleared halfEnd isBadAccess isStateByte startValue startByte started firstOf isFlat noSuchLane isBusy isUnused eventRefusals readAt carried done refused answered step run recordCount isHeader isWholeLength imageIn recordByte usedBytes isRecord callAt eventAt eventsIn isWellFormed checked ascii digitText decimalUpTo decimal hexBytes line badLine linesFrom nightOf printedBy printed sameBytes linesOf holds allHold blank holding fourLanes applied recordOf padded recordsOf headerOf fileOf allPrint flat
+files-print = tt
