@@ -1,0 +1,365 @@
+//! Cases from the scope paper, run with `second/check` (rustc --test).
+
+use crate::module::*;
+use crate::night;
+use crate::registers::*;
+use crate::soundness;
+
+/// A module on the bench: Application 1 with 4 lanes beginning on 0 or 4, and
+/// descriptor 2 at FFh unless a case changes the image first.
+struct Bench {
+    image: [u8; IMAGE_LEN],
+    lanes: [LaneRecord; LANES],
+}
+
+fn usual_image() -> [u8; IMAGE_LEN] {
+    let mut image = [0u8; IMAGE_LEN];
+    image[88] = 0x44;
+    image[89] = 0x11;
+    image[90] = 0xFF;
+    image
+}
+
+impl Bench {
+    fn of(image: [u8; IMAGE_LEN]) -> Bench {
+        let mut bench = Bench { image, lanes: [LaneRecord::IDLE; LANES] };
+        assert_eq!(start(&mut bench.image, &mut bench.lanes), 0);
+        bench.write(127, &[0x10]);
+        bench
+    }
+
+    fn new() -> Bench {
+        Bench::of(usual_image())
+    }
+
+    fn event(&mut self, event: Event) -> Outcome {
+        let before = (self.image, self.lanes);
+        let mut buffer = [0xEE; 128];
+        let outcome = desk(&mut self.image, &mut self.lanes, &event, &mut buffer);
+        assert_eq!(soundness::unsound_at(&self.image, &self.lanes), None);
+        assert!(buffer[outcome.read as usize..].iter().all(|&byte| byte == 0xEE));
+        if outcome.answer != 0 {
+            assert!(before == (self.image, self.lanes), "a refusal changed something");
+        }
+        outcome
+    }
+
+    fn write(&mut self, address: u8, bytes: &[u8]) -> u8 {
+        let mut data = [0u8; 8];
+        data[..bytes.len()].copy_from_slice(bytes);
+        self.event(Event::Write { address, count: bytes.len() as u8, data }).answer
+    }
+
+    fn read(&mut self, address: u8, count: u8) -> Result<Vec<u8>, u8> {
+        let mut buffer = [0u8; 128];
+        let event = Event::Read { address, count };
+        let outcome = desk(&mut self.image, &mut self.lanes, &event, &mut buffer);
+        match outcome.answer {
+            0 => Ok(buffer[..outcome.read as usize].to_vec()),
+            number => Err(number),
+        }
+    }
+
+    fn work(&mut self, lane: u8) -> Outcome {
+        self.event(Event::Work { lane })
+    }
+
+    fn hardware(&mut self, lane: u8) -> u8 {
+        self.event(Event::Hardware { lane }).answer
+    }
+
+    fn status(&self, lane: usize) -> u8 {
+        self.image[CONFIG_STATUS + lane / 2] >> (4 * (lane % 2)) & 15
+    }
+
+    /// Stages the bytes from a lane on, triggers and works until closed.
+    fn apply(&mut self, lane: u8, staged: &[u8], trigger: u8, selected: u8) -> u8 {
+        self.write(145 + lane, staged);
+        self.write(trigger, &[selected]);
+        while self.lanes[lane as usize].in_progress() {
+            assert_eq!(self.work(lane).answer, 0);
+        }
+        self.status(lane as usize)
+    }
+}
+
+#[test]
+fn both_sides_of_each_line() {
+    assert_eq!(Bench::new().apply(0, &[0x10, 0x10, 0x10], 143, 0x07), 7);
+    assert_eq!(Bench::new().apply(2, &[0x14, 0x14, 0x14, 0x14], 143, 0x3C), 4);
+    assert_eq!(Bench::new().apply(0, &[0x20, 0x20, 0x20, 0x20], 143, 0x0F), 3);
+    assert_eq!(Bench::new().apply(0, &[0x90, 0x90, 0x90, 0x90], 143, 0x0F), 3);
+    assert_eq!(Bench::new().apply(0, &[0x10, 0x10, 0x10, 0x10], 143, 0x0F), 1);
+
+    let mut bench = Bench::new();
+    bench.write(145, &[0x10; 4]);
+    let before = (bench.image, bench.lanes);
+    assert_eq!(bench.write(143, &[0]), 0);
+    assert!(before == (bench.image, bench.lanes));
+
+    assert_eq!(bench.write(248, &[0; 8]), 0);
+    assert_eq!(bench.write(250, &[0; 8]), 4);
+    assert_eq!(bench.read(120, 8).map(|bytes| bytes.len()), Ok(8));
+    assert_eq!(bench.read(120, 9), Err(4));
+}
+
+#[test]
+fn low_alarm_is_strict_and_high_byte_first() {
+    let mut image = usual_image();
+    image[P02 + 194..P02 + 196].copy_from_slice(&1000u16.to_be_bytes());
+    let mut bench = Bench::of(image);
+    bench.event(Event::Sample { lane: 5, value: 1000 });
+    assert_eq!(bench.image[RX_POWER_LOW_ALARM_FLAG], 0);
+    bench.event(Event::Sample { lane: 5, value: 999 });
+    assert_eq!(bench.image[RX_POWER_LOW_ALARM_FLAG], 0x20);
+    assert_eq!(bench.image[RX_POWER + 10..RX_POWER + 12], [0x03, 0xE7]);
+    assert_eq!(bench.image[3], 0x06);
+}
+
+#[test]
+fn a_trigger_holds_what_was_staged_before_it() {
+    let mut bench = Bench::new();
+    bench.write(145, &[0x10; 4]);
+    assert_eq!(bench.write(143, &[0x0F, 0, 0x90, 0x90, 0x90, 0x90, 0x90, 0x90]), 0);
+    for _ in 0..5 {
+        bench.work(2);
+    }
+    assert_eq!(bench.image[ACTIVE_DP_CONFIG..ACTIVE_DP_CONFIG + 5], [0x10, 0x10, 0x10, 0x10, 0]);
+    assert_eq!(bench.image[STAGED_DP_CONFIG], 0x90);
+}
+
+#[test]
+fn the_second_trigger_of_an_access_sees_the_first() {
+    let mut bench = Bench::new();
+    bench.write(145, &[0x10, 0x10, 0x10, 0x10, 0x18, 0x18, 0x18, 0x18]);
+    bench.write(143, &[0x0F, 0xFF]);
+    match (bench.lanes[0].stage, bench.lanes[4].stage) {
+        (Stage::InProgress(one), Stage::InProgress(two)) => {
+            assert_eq!((one.trigger, one.group), (Trigger::ApplyDPInit, 0x0F));
+            assert_eq!((two.trigger, two.group), (Trigger::ApplyImmediate, 0xF0));
+        }
+        stages => panic!("{:?}", stages),
+    }
+}
+
+#[test]
+fn page_and_bank() {
+    let mut bench = Bench::new();
+    bench.write(126, &[0x01]);
+    assert_eq!(bench.read(126, 2), Ok(vec![0x01, 0x10]));
+    bench.write(145, &[0x77]);
+    assert_eq!(bench.image[STAGED_DP_CONFIG], 0);
+    bench.write(126, &[0x00]);
+    bench.write(145, &[0x77]);
+    assert_eq!(bench.image[STAGED_DP_CONFIG], 0x77);
+    bench.write(126, &[0x01, 0x11]);
+    assert_eq!(bench.read(126, 2), Ok(vec![0, 0]));
+    bench.write(126, &[0x05, 0x02]);
+    assert_eq!(bench.read(126, 2), Ok(vec![5, 2]));
+    bench.write(127, &[0x9F]);
+    assert_eq!(bench.read(126, 2), Ok(vec![0, 0]));
+}
+
+#[test]
+fn flags_are_cleared_after_their_value_is_taken() {
+    let mut bench = Bench::new();
+    bench.event(Event::Condition { flag_byte: 136, mask: 0x81 });
+    bench.event(Event::Condition { flag_byte: 148, mask: 0x02 });
+    assert_eq!(bench.image[3], 0x06);
+    bench.write(127, &[0x11]);
+    assert_eq!(bench.read(136, 1), Ok(vec![0x81]));
+    assert_eq!(bench.image[3], 0x06);
+    assert_eq!(bench.read(134, 20).map(|bytes| (bytes[2], bytes[14])), Ok((0, 0x02)));
+    assert_eq!(bench.image[3], 0x07);
+}
+
+#[test]
+fn a_path_from_rest_to_active_and_back() {
+    let mut bench = Bench::new();
+    assert_eq!(bench.apply(4, &[0x18; 4], 143, 0xF0), 1);
+    assert_eq!(bench.image[DP_INIT_PENDING], 0xF0);
+    let mut states = Vec::new();
+    for _ in 0..5 {
+        assert_eq!(bench.hardware(6), 0);
+        states.push(bench.image[DP_STATE + 2]);
+    }
+    assert_eq!(states, [0x22, 0x77, 0x55, 0x44, 0x44]);
+    // ApplyDPInit on the active path makes it go round.
+    assert_eq!(bench.apply(4, &[0x18; 4], 143, 0xF0), 1);
+    states.clear();
+    for _ in 0..7 {
+        assert_eq!(bench.hardware(6), 0);
+        states.push(bench.image[DP_STATE + 2] & 15);
+    }
+    assert_eq!(states, [6, 7, 3, 1, 2, 7, 5]);
+    assert_eq!(bench.hardware(0), 6);
+    // With DPDeinit it rests, and then it can be released.
+    bench.write(128, &[0x80]);
+    for _ in 0..6 {
+        bench.hardware(7);
+    }
+    assert_eq!(bench.image[DP_STATE + 2], 0x11);
+    assert_eq!(bench.apply(4, &[0x0F, 0, 0, 0], 144, 0xF0), 1);
+    assert_eq!(bench.image[ACTIVE_DP_CONFIG..ACTIVE_DP_CONFIG + 29], [0u8; 29]);
+}
+
+#[test]
+fn commission_mask_only_when_immediate_closes_on_a_live_path() {
+    let mut bench = Bench::new();
+    assert_eq!(bench.apply(0, &[0x10; 4], 144, 0x0F), 1);
+    assert_eq!(bench.image[DP_INIT_PENDING], 0);
+    bench.hardware(0);
+    bench.hardware(0);
+    bench.write(144, &[0x0F]);
+    let masks: Vec<u8> = (0..5).map(|_| bench.work(1).commission).collect();
+    assert_eq!(masks, [0, 0, 0, 0, 0x0F]);
+    assert_eq!(bench.work(1).answer, 6);
+}
+
+#[test]
+fn refusals_in_their_order() {
+    let mut lanes = [LaneRecord::IDLE; LANES];
+    let mut short = [0u8; 767];
+    let read = Event::Read { address: 0, count: 0 };
+    assert_eq!(start(&mut short, &mut lanes), 1);
+    assert_eq!(desk(&mut short, &mut lanes, &read, &mut []).answer, 1);
+    let mut image = [0u8; IMAGE_LEN];
+    image[2] = 0x80;
+    assert_eq!(start(&mut image, &mut lanes), 2);
+    assert_eq!(desk(&mut image, &mut lanes, &read, &mut []).answer, 2);
+    image[2] = 0;
+    assert_eq!(desk(&mut image, &mut lanes, &read, &mut []).answer, 3);
+    assert_eq!(start(&mut image, &mut lanes), 0);
+    assert_eq!(desk(&mut image, &mut lanes, &read, &mut []).answer, 4);
+    let read = Event::Read { address: 0, count: 1 };
+    assert_eq!(desk(&mut image, &mut lanes, &read, &mut []).answer, 5);
+    assert_eq!(desk(&mut image, &mut lanes, &read, &mut [0]).answer, 0);
+}
+
+#[test]
+fn soundness_looks_at_odd_records_too() {
+    let bench = {
+        let mut bench = Bench::new();
+        bench.write(145, &[0x10; 4]);
+        bench.write(143, &[0x0F]);
+        bench
+    };
+    let broken = |change: &dyn Fn(&mut [u8; IMAGE_LEN], &mut Apply)| {
+        let (mut image, mut lanes) = (bench.image, bench.lanes);
+        if let Stage::InProgress(apply) = &mut lanes[1].stage {
+            change(&mut image, apply);
+        }
+        soundness::unsound_at(&image, &lanes).map(|(condition, _)| condition)
+    };
+    assert_eq!(broken(&|_, _| ()), None);
+    assert_eq!(broken(&|image, _| image[CONFIG_STATUS] = 0x1C), Some('a'));
+    assert_eq!(broken(&|_, apply| apply.held.amplitude = 16), Some('b'));
+    assert_eq!(broken(&|_, apply| apply.held.data_path_id = 8), Some('b'));
+    assert_eq!(broken(&|_, apply| apply.verdict = Verdict::Pass { next: 9 }), Some('b'));
+    assert_eq!(broken(&|_, apply| apply.group = 0x0E), Some('b'));
+    assert_eq!(broken(&|image, _| image[ACTIVE_DP_CONFIG + 7] = 0x18), Some('c'));
+    assert_eq!(broken(&|image, _| image[DP_INIT_PENDING] = 0x80), Some('d'));
+    assert_eq!(broken(&|image, _| image[DP_INIT_PENDING] = 0x0F), None);
+    assert_eq!(broken(&|image, _| image[ACTIVE_DP_CONFIG + 1] = 0x10), Some('e'));
+    assert_eq!(broken(&|_, apply| apply.held.app_sel = 2), Some('e'));
+    // The bytes of the triggers and of lower 3 are nobody's business here.
+    assert_eq!(broken(&|image, _| image[APPLY_DP_INIT] = 0xFF), None);
+    assert_eq!(broken(&|image, _| image[MODULE_STATE] = 0), None);
+}
+
+#[test]
+fn what_only_lent_states_show() {
+    // A path in DPTxTurnOn with a bit pending goes back.
+    let mut bench = Bench::new();
+    bench.apply(0, &[0x10; 4], 144, 0x0F);
+    for _ in 0..3 {
+        bench.hardware(0);
+    }
+    assert_eq!(bench.image[DP_STATE], 0x55);
+    bench.image[DP_INIT_PENDING] = 0x08;
+    bench.hardware(0);
+    assert_eq!(bench.image[DP_STATE..DP_STATE + 2], [0x66, 0x66]);
+    // Every flag byte, and only it, is cleared by a read.
+    for place in 134..=153u8 {
+        bench.image[LANE_FLAGS - 1..=LANE_FLAGS_END].fill(0x5A);
+        bench.write(127, &[0x11]);
+        assert_eq!(bench.image[3], 0x06);
+        assert_eq!(bench.read(place, 1), Ok(vec![0x5A]));
+        let left = bench.image[LANE_FLAGS - 1..=LANE_FLAGS_END].iter();
+        assert_eq!(left.filter(|&&byte| byte == 0).count(), 1);
+        assert_eq!(bench.image[P11 + place as usize], 0);
+    }
+    bench.image[7..11].fill(0x77);
+    assert_eq!(bench.read(0, 128).map(|bytes| bytes[8]), Ok(0x77));
+    assert_eq!(bench.image[7..11], [0x77, 0, 0, 0x77]);
+    // Page 00h lies where its own address 136 is, and clears nothing.
+    bench.image[P00 + 136] = 0x33;
+    bench.write(127, &[0x00]);
+    assert_eq!(bench.read(136, 1), Ok(vec![0x33]));
+    assert_eq!(bench.image[P00 + 136], 0x33);
+}
+
+#[test]
+fn trigger_bytes_read_as_zero_in_any_image() {
+    let mut bench = Bench::new();
+    bench.image[APPLY_DP_INIT] = 0xAA;
+    bench.image[APPLY_IMMEDIATE] = 0xBB;
+    bench.image[STAGED_DP_CONFIG] = 0xCC;
+    assert_eq!(bench.read(142, 4), Ok(vec![0, 0, 0, 0xCC]));
+    assert_eq!(bench.read(144, 2), Ok(vec![0, 0xCC]));
+}
+
+#[test]
+fn a_list_is_answered_as_its_events_are() {
+    let night = example();
+    let night = night::check(&night).unwrap_or_else(|number| panic!("bad {}", number));
+    let events: Vec<Event> = night.events().collect();
+    let (mut image, mut lanes) = (*night.image(), [LaneRecord::IDLE; LANES]);
+    assert_eq!(start(&mut image, &mut lanes), 0);
+    let before = (image, lanes);
+    let mut short = vec![0x55; events.len() - 1];
+    assert_eq!(desk_list(&mut image, &mut lanes, &events, &mut short), 5);
+    assert!(before == (image, lanes) && short.iter().all(|&slot| slot == 0x55));
+    let mut answers = vec![0x55; events.len() + 1];
+    assert_eq!(desk_list(&mut image, &mut lanes, &events, &mut answers), 0);
+    assert_eq!(answers, [0, 0, 0, 0, 0, 0, 0, 0, 0, 0, 0, 0, 0, 6, 0, 0, 0x55]);
+    assert_eq!(desk_list(&mut image, &mut lanes, &[], &mut []), 0);
+}
+
+fn example() -> Vec<u8> {
+    include_bytes!("../../nights/example.night").to_vec()
+}
+
+#[test]
+fn the_example_prints_as_the_paper_says() {
+    let expected = "0 0\n1 0\n2 0\n3 0\n4 0\n5 0 cc cc 00 00\n6 0\n7 0\n8 0\n9 0\n\
+                    10 0 11 11 00 00\n11 0 10 10 10 10 00\n12 0 0f\n13 6\n14 0\n15 0 22 22\n";
+    assert_eq!(String::from_utf8(night::replay(&example())), Ok(expected.to_string()));
+}
+
+#[test]
+fn malformed_comes_before_flat() {
+    let mut file = example();
+    file[16 + 2] = 0x80;
+    assert_eq!(night::replay(&file), b"bad 2\n");
+    file[784] = 7;
+    assert_eq!(night::replay(&file), b"bad 9\n");
+    assert_eq!(night::replay(&[]), b"bad 9\n");
+    let mut none = example();
+    none.truncate(784);
+    assert_eq!(night::replay(&none), b"bad 9\n");
+    none[7] = 0;
+    assert_eq!(night::replay(&none), b"");
+}
+
+#[test]
+fn the_index_counts_past_every_digit() {
+    let mut file = example();
+    file.truncate(784);
+    file[4..8].copy_from_slice(&5000u32.to_be_bytes());
+    for _ in 0..5000 {
+        file.extend_from_slice(&[3, 9, 0, 0, 0, 0, 0, 0, 0, 0, 0, 0]);
+    }
+    let expected: String = (0..5000).map(|index| format!("{} 8\n", index)).collect();
+    assert!(night::replay(&file) == expected.as_bytes());
+}

@@ -1,0 +1,957 @@
+//! The register core: its state, start, and the six events.
+
+use crate::registers::*;
+use crate::soundness;
+use std::ops::Range;
+
+/// Which trigger register started an Apply.
+#[derive(Clone, Copy, PartialEq, Eq, Debug)]
+pub enum Trigger {
+    ApplyDPInit,
+    ApplyImmediate,
+}
+
+/// What the trigger decided about a group.
+#[derive(Clone, Copy, PartialEq, Eq, Debug)]
+pub enum Verdict {
+    /// Accepted; `next` is the lane to copy next, or `NO_NEXT_LANE`.
+    Pass { next: u8 },
+    /// Rejected with a ConfigStatus code of 2 to 7.
+    Reject { code: u8 },
+}
+
+/// A lane's staged settings as they were when its trigger was written.
+#[derive(Clone, Copy, PartialEq, Eq, Debug)]
+pub struct Settings {
+    pub app_sel: u8,
+    pub data_path_id: u8,
+    pub explicit_control: bool,
+    pub adaptive_eq: bool,
+    pub cdr_tx: bool,
+    pub cdr_rx: bool,
+    pub input_eq: u8,
+    pub pre_cursor: u8,
+    pub post_cursor: u8,
+    pub amplitude: u8,
+}
+
+impl Settings {
+    /// Every field as the copying leaves it after a release.
+    pub const RELEASED: Settings = Settings {
+        app_sel: 0,
+        data_path_id: 0,
+        explicit_control: false,
+        adaptive_eq: false,
+        cdr_tx: false,
+        cdr_rx: false,
+        input_eq: 0,
+        pre_cursor: 0,
+        post_cursor: 0,
+        amplitude: 0,
+    };
+
+    /// What copying these held settings puts into the active set: all zeros
+    /// for AppSel 0, the module's own choice (bits on, targets 0) without
+    /// ExplicitControl, else the settings themselves.
+    #[inline]
+    pub fn as_copied(self) -> Settings {
+        if self.app_sel == 0 {
+            Settings::RELEASED
+        } else if self.explicit_control {
+            self
+        } else {
+            Settings {
+                adaptive_eq: true,
+                cdr_tx: true,
+                cdr_rx: true,
+                input_eq: 0,
+                pre_cursor: 0,
+                post_cursor: 0,
+                amplitude: 0,
+                ..self
+            }
+        }
+    }
+}
+
+/// An Apply under way on a lane.
+#[derive(Clone, Copy, PartialEq, Eq, Debug)]
+pub struct Apply {
+    /// The group's lanes, bit l for lane l.
+    pub group: u8,
+    pub trigger: Trigger,
+    pub held: Settings,
+    pub verdict: Verdict,
+}
+
+/// The stage a lane's Apply has reached.
+#[derive(Clone, Copy, PartialEq, Eq, Debug)]
+pub enum Stage {
+    Idle,
+    InProgress(Apply),
+}
+
+/// What the module remembers of a lane beside the image.
+#[derive(Clone, Copy, PartialEq, Eq, Debug)]
+pub struct LaneRecord {
+    pub stage: Stage,
+}
+
+impl LaneRecord {
+    pub const IDLE: LaneRecord = LaneRecord { stage: Stage::Idle };
+
+    #[inline(always)]
+    pub fn in_progress(&self) -> bool {
+        match self.stage {
+            Stage::Idle => false,
+            Stage::InProgress(_) => true,
+        }
+    }
+}
+
+/// One event of a night.
+#[derive(Clone, Copy, PartialEq, Eq, Debug)]
+pub enum Event {
+    /// `data` past the smaller of `count` and 8 has no meaning.
+    Write { address: u8, count: u8, data: [u8; 8] },
+    Read { address: u8, count: u8 },
+    Work { lane: u8 },
+    Hardware { lane: u8 },
+    Condition { flag_byte: u8, mask: u8 },
+    Sample { lane: u8, value: u16 },
+}
+
+/// What an event gave back.
+#[derive(Clone, Copy, PartialEq, Eq, Debug)]
+pub struct Outcome {
+    /// The answer number; 0 is done.
+    pub answer: u8,
+    /// Lanes to be commissioned; only ever set by a closing work step.
+    pub commission: u8,
+    /// Bytes put into the read buffer.
+    pub read: u8,
+}
+
+impl Outcome {
+    const DONE: Outcome = Outcome { answer: answer::DONE, commission: 0, read: 0 };
+
+    #[inline(always)]
+    fn refused(answer: u8) -> Outcome {
+        Outcome { answer, commission: 0, read: 0 }
+    }
+}
+
+/// An Application descriptor that is present.
+#[derive(Clone, Copy, PartialEq, Eq, Debug)]
+pub struct Descriptor {
+    /// Host lanes, 1 to 8.
+    pub lane_count: u8,
+    /// Bit f set if a path may begin on lane f.
+    pub first_lanes: u8,
+}
+
+impl Descriptor {
+    /// The lanes of a path that begins on lane `first`, if the descriptor
+    /// allows one there.
+    #[inline]
+    pub fn lanes_from(self, first: u8) -> Option<u8> {
+        if self.first_lanes >> first & 1 == 0 || first + self.lane_count > 8 {
+            None
+        } else {
+            Some(((0xFFu32 >> (8 - self.lane_count)) << first) as u8)
+        }
+    }
+}
+
+/// Puts the image into its start state and makes all lanes idle. A refusal
+/// leaves the image alone; the lanes are idle all the same.
+pub fn start(image: &mut [u8], lanes: &mut [LaneRecord; LANES]) -> u8 {
+    *lanes = [LaneRecord::IDLE; LANES];
+    if image.len() != IMAGE_LEN {
+        return answer::IMAGE_LENGTH;
+    }
+    if image[CHARACTERISTICS] & FLAT_MEMORY != 0 {
+        return answer::FLAT;
+    }
+    image[3..39].fill(0);
+    image[41..85].fill(0);
+    image[118..128].fill(0);
+    image[P10 + 128..].fill(0);
+    image[MODULE_STATE] = MODULE_READY;
+    image[DP_STATE..DP_STATE + 4].fill(0x11);
+    answer::DONE
+}
+
+/// One event with every question asked: length, flat memory and soundness
+/// first, then the event's own. An answer other than 0 changes nothing.
+pub fn desk(
+    image: &mut [u8],
+    lanes: &mut [LaneRecord; LANES],
+    event: &Event,
+    buffer: &mut [u8],
+) -> Outcome {
+    match admit(image, lanes) {
+        Ok(mut module) => module.step(event, buffer),
+        Err(number) => Outcome::refused(number),
+    }
+}
+
+/// A night as a lent list of events: the answers go into `answers`, read
+/// bytes are dropped. 1, 2, 3 and 5 are given once, for the whole list, and
+/// then nothing is changed.
+pub fn desk_list(
+    image: &mut [u8],
+    lanes: &mut [LaneRecord; LANES],
+    events: &[Event],
+    answers: &mut [u8],
+) -> u8 {
+    let mut module = match admit(image, lanes) {
+        Ok(module) => module,
+        Err(number) => return number,
+    };
+    if answers.len() < events.len() {
+        return answer::SHORT_BUFFER;
+    }
+    let mut buffer = [0u8; 128];
+    for (event, slot) in events.iter().zip(answers.iter_mut()) {
+        *slot = module.step(event, &mut buffer).answer;
+    }
+    answer::DONE
+}
+
+/// The three questions asked of a lent state, in their order.
+fn admit<'a>(
+    image: &'a mut [u8],
+    lanes: &'a mut [LaneRecord; LANES],
+) -> Result<Module<'a>, u8> {
+    use std::convert::TryFrom;
+    let image = match <&mut [u8; IMAGE_LEN]>::try_from(image) {
+        Ok(image) => image,
+        Err(_) => return Err(answer::IMAGE_LENGTH),
+    };
+    if image[CHARACTERISTICS] & FLAT_MEMORY != 0 {
+        return Err(answer::FLAT);
+    }
+    if !soundness::sound(image, lanes) {
+        return Err(answer::NOT_SOUND);
+    }
+    Ok(Module { image, lanes })
+}
+
+/// Whether a byte of page 10h keeps what is written to it.
+const fn stored_on_10h(address: usize) -> bool {
+    matches!(address, 128..=132 | 137..=139 | 145..=153 | 156..=173 | 213..=232)
+}
+
+/// Of the eight bytes from each offset on page 10h on, FFh in those that keep
+/// what is written; nothing past the page's end. First byte lowest.
+const STORED_FROM: [u64; 128] = stored_from();
+
+const fn stored_from() -> [u64; 128] {
+    let mut table = [0u64; 128];
+    let mut offset = 0;
+    while offset < 128 {
+        let mut byte = 0;
+        while byte < 8 {
+            let address = 128 + offset + byte;
+            if address < 256 && stored_on_10h(address) {
+                table[offset] |= 0xFF << (8 * byte);
+            }
+            byte += 1;
+        }
+        offset += 1;
+    }
+    table
+}
+
+/// For a set of lanes, Fh in the nibble of each of them.
+const NIBBLES_OF: [u32; 256] = nibbles_of();
+
+const fn nibbles_of() -> [u32; 256] {
+    let mut table = [0u32; 256];
+    let mut set = 0;
+    while set < 256 {
+        let mut lane = 0;
+        while lane < 8 {
+            if set >> lane & 1 != 0 {
+                table[set] |= 0xF << (4 * lane);
+            }
+            lane += 1;
+        }
+        set += 1;
+    }
+    table
+}
+
+/// One bit a byte: which of the eight bytes of `word` are not zero.
+#[inline(always)]
+fn nonzero_bytes(word: u64) -> u8 {
+    const LOW: u64 = 0x7F7F_7F7F_7F7F_7F7F;
+    let high_bits = (((word & LOW) + LOW) | word) & !LOW;
+    ((high_bits >> 7).wrapping_mul(0x0102_0408_1020_4080) >> 56) as u8
+}
+
+/// `byte` eight times.
+#[inline(always)]
+fn everywhere(byte: u8) -> u64 {
+    byte as u64 * 0x0101_0101_0101_0101
+}
+
+/// DPConfig bytes of all lanes: the lanes whose AppSel is not 0.
+#[inline(always)]
+fn with_app_sel(dp_configs: u64) -> u8 {
+    nonzero_bytes(dp_configs & everywhere(0xF0))
+}
+
+/// DPConfig bytes of all lanes: the lanes with this DataPathID.
+#[inline(always)]
+fn with_data_path_id(dp_configs: u64, id: u8) -> u8 {
+    !nonzero_bytes((dp_configs ^ everywhere(id << 1)) & everywhere(0x0E))
+}
+
+/// The working state: the lent image and the lane records. Its steps take
+/// the state to be sound; `desk` asks first.
+pub struct Module<'a> {
+    pub image: &'a mut [u8; IMAGE_LEN],
+    pub lanes: &'a mut [LaneRecord; LANES],
+}
+
+impl<'a> Module<'a> {
+    /// One event on a sound state of a paged module.
+    #[inline]
+    pub fn step(&mut self, event: &Event, buffer: &mut [u8]) -> Outcome {
+        self.step_in_mode::<false>(event, buffer)
+    }
+
+    /// The comparison run: as `step`, but a passing group's settings are all
+    /// copied by its closing work step. For checks only.
+    pub fn step_late(&mut self, event: &Event, buffer: &mut [u8]) -> Outcome {
+        self.step_in_mode::<true>(event, buffer)
+    }
+
+    #[inline(always)]
+    fn step_in_mode<const LATE: bool>(&mut self, event: &Event, buffer: &mut [u8]) -> Outcome {
+        let outcome = match *event {
+            Event::Write { address, count, data } => {
+                self.write(address, count, u64::from_le_bytes(data))
+            }
+            Event::Read { address, count } => self.read(address, count, buffer),
+            Event::Work { lane } => self.work::<LATE>(lane),
+            Event::Hardware { lane } => self.hardware(lane),
+            Event::Condition { flag_byte, mask } => self.condition(flag_byte, mask),
+            Event::Sample { lane, value } => self.sample(lane, value),
+        };
+        if outcome.answer == answer::DONE {
+            self.settle_interrupt();
+        }
+        outcome
+    }
+
+    // ---- small reads and writes of the image ----
+
+    #[inline(always)]
+    fn word(&self, place: usize) -> u64 {
+        let mut bytes = [0u8; 8];
+        bytes.copy_from_slice(&self.image[place..place + 8]);
+        u64::from_le_bytes(bytes)
+    }
+
+    #[inline(always)]
+    fn half_word(&self, place: usize) -> u32 {
+        let mut bytes = [0u8; 4];
+        bytes.copy_from_slice(&self.image[place..place + 4]);
+        u32::from_le_bytes(bytes)
+    }
+
+    #[inline(always)]
+    fn u16_at(&self, place: usize) -> u16 {
+        u16::from_be_bytes([self.image[place], self.image[place + 1]])
+    }
+
+    #[inline(always)]
+    fn bit(&self, place: usize, lane: u8) -> bool {
+        self.image[place] >> lane & 1 != 0
+    }
+
+    #[inline(always)]
+    fn set_bit(&mut self, place: usize, lane: u8, on: bool) {
+        self.image[place] = (self.image[place] & !(1 << lane)) | ((on as u8) << lane);
+    }
+
+    #[inline(always)]
+    fn nibble(&self, place: usize, lane: u8) -> u8 {
+        self.image[place + (lane >> 1 & 3) as usize] >> (4 * (lane & 1)) & 0xF
+    }
+
+    #[inline(always)]
+    fn set_nibble(&mut self, place: usize, lane: u8, value: u8) {
+        let byte = &mut self.image[place + (lane >> 1 & 3) as usize];
+        let shift = 4 * (lane & 1);
+        *byte = (*byte & !(0xF << shift)) | (value << shift);
+    }
+
+    /// Gives every lane of a set the same nibble.
+    #[inline(always)]
+    fn set_nibbles(&mut self, place: usize, lanes: u8, value: u8) {
+        let field = NIBBLES_OF[lanes as usize];
+        let all = (self.half_word(place) & !field) | ((value as u32 * 0x1111_1111) & field);
+        self.image[place..place + 4].copy_from_slice(&all.to_le_bytes());
+    }
+
+    /// Bit 0 of lower 3 is 0 exactly while a flag is up that its mask lets
+    /// through.
+    #[inline(always)]
+    fn settle_interrupt(&mut self) {
+        let showing = (self.word(LANE_FLAGS) & !self.word(LANE_MASKS))
+            | (self.word(LANE_FLAGS + 8) & !self.word(LANE_MASKS + 8))
+            | (self.half_word(LANE_FLAGS + 16) & !self.half_word(LANE_MASKS + 16)) as u64;
+        self.image[MODULE_STATE] =
+            (self.image[MODULE_STATE] & !INTERRUPT_DEASSERTED) | (showing == 0) as u8;
+    }
+
+    // ---- host accesses ----
+
+    /// Base of the page that upper addresses go to.
+    #[inline(always)]
+    pub fn upper_page(&self) -> usize {
+        match self.image[PAGE_SELECT] {
+            0x01 => P01,
+            0x02 => P02,
+            0x10 if self.image[BANK_SELECT] == 0 => P10,
+            0x11 if self.image[BANK_SELECT] == 0 => P11,
+            _ => P00,
+        }
+    }
+
+    /// The data come as one word, first byte lowest.
+    #[inline(always)]
+    fn write(&mut self, address: u8, count: u8, data: u64) -> Outcome {
+        if count > 8 || !within_its_half(address, count) {
+            return Outcome::refused(answer::BAD_ACCESS);
+        }
+        if address == PAGE_SELECT as u8 {
+            self.select_page(data as u8);
+        } else if address < 128 {
+            self.write_lower(address, count, data);
+        } else if self.upper_page() == P10 {
+            let offset = (address & 127) as usize;
+            let end = offset + count as usize;
+            if offset <= APPLY_IMMEDIATE - P10 - 128 && end > APPLY_DP_INIT - P10 - 128 {
+                self.write_with_triggers(address, count, data);
+            } else {
+                self.store_on_10h(offset, data, count);
+            }
+        }
+        Outcome::DONE
+    }
+
+    /// Few lower bytes take a write; the page is selected in its turn.
+    #[inline(never)]
+    fn write_lower(&mut self, address: u8, count: u8, data: u64) {
+        let bytes = data.to_le_bytes();
+        for (place, &byte) in (address as usize..).zip(&bytes[..count as usize]) {
+            match place {
+                31..=36 | BANK_SELECT => self.image[place] = byte,
+                PAGE_SELECT => self.select_page(byte),
+                _ => {}
+            }
+        }
+    }
+
+    /// Stores up to eight bytes on page 10h, those that take it, at once.
+    #[inline(always)]
+    fn store_on_10h(&mut self, offset: usize, bytes: u64, count: u8) {
+        let offset = offset & 127;
+        let counted = !0u64 >> ((64 - 8 * count as u32) & 63);
+        let field = STORED_FROM[offset] & counted;
+        let place = P10 + 128 + offset;
+        let all = (self.word(place) & !field) | (bytes & field);
+        self.image[place..place + 8].copy_from_slice(&all.to_le_bytes());
+    }
+
+    /// A write that covers a trigger goes byte by byte: the trigger acts on
+    /// what is staged when its turn comes.
+    #[inline(never)]
+    fn write_with_triggers(&mut self, address: u8, count: u8, data: u64) {
+        let bytes = data.to_le_bytes();
+        for (place, &byte) in (P10 + address as usize..).zip(&bytes[..count as usize]) {
+            match place {
+                APPLY_DP_INIT => self.apply(Trigger::ApplyDPInit, byte),
+                APPLY_IMMEDIATE => self.apply(Trigger::ApplyImmediate, byte),
+                _ => self.store_on_10h(place - P10 - 128, byte as u64, 1),
+            }
+        }
+    }
+
+    #[inline(always)]
+    fn select_page(&mut self, page: u8) {
+        let there = match page {
+            0x00..=0x02 => true,
+            0x10 | 0x11 => self.image[BANK_SELECT] == 0,
+            _ => false,
+        };
+        if there {
+            self.image[PAGE_SELECT] = page;
+        } else {
+            self.image[BANK_SELECT] = 0;
+            self.image[PAGE_SELECT] = 0;
+        }
+    }
+
+    /// The part of the image that a read takes its bytes from.
+    #[inline(always)]
+    pub(crate) fn read_range(&self, address: u8, count: u8) -> Result<Range<usize>, u8> {
+        if count > 128 || !within_its_half(address, count) {
+            return Err(answer::BAD_ACCESS);
+        }
+        let base = if address < 128 { 0 } else { self.upper_page() };
+        let from = base + address as usize;
+        Ok(from..from + count as usize)
+    }
+
+    /// What follows when the bytes of a read have been taken.
+    #[inline(always)]
+    pub(crate) fn after_read(&mut self, range: Range<usize>) {
+        if range.start < MODULE_FLAGS_END {
+            self.clear_within(&range, MODULE_FLAGS, MODULE_FLAGS_END);
+        } else if range.end > LANE_FLAGS {
+            self.clear_within(&range, LANE_FLAGS, LANE_FLAGS_END);
+        }
+        self.settle_interrupt();
+    }
+
+    #[inline(always)]
+    fn read(&mut self, address: u8, count: u8, buffer: &mut [u8]) -> Outcome {
+        let range = match self.read_range(address, count) {
+            Ok(range) => range,
+            Err(number) => return Outcome::refused(number),
+        };
+        if buffer.len() < range.len() {
+            return Outcome::refused(answer::SHORT_BUFFER);
+        }
+        let bytes = &mut buffer[..range.len()];
+        bytes.copy_from_slice(&self.image[range.clone()]);
+        // The triggers are never stored, but a lent image may hold something
+        // in their bytes.
+        for trigger in [APPLY_DP_INIT, APPLY_IMMEDIATE] {
+            if range.contains(&trigger) {
+                bytes[trigger - range.start] = 0;
+            }
+        }
+        self.after_read(range);
+        Outcome { answer: answer::DONE, commission: 0, read: count }
+    }
+
+    /// Clears what a range covers of `first..end`.
+    #[inline(always)]
+    fn clear_within(&mut self, range: &Range<usize>, first: usize, end: usize) {
+        let (first, end) = (range.start.max(first), range.end.min(end));
+        if first < end {
+            self.image[first..end].fill(0);
+        }
+    }
+
+    // ---- triggers and verdicts ----
+
+    /// The lanes with a non-zero active AppSel.
+    #[inline(always)]
+    pub fn used_lanes(&self) -> u8 {
+        with_app_sel(self.word(ACTIVE_DP_CONFIG))
+    }
+
+    /// The active path that lane is on, or no lanes if it is unused.
+    #[inline(always)]
+    pub fn path_of(&self, lane: u8) -> u8 {
+        let active = self.word(ACTIVE_DP_CONFIG);
+        let own = (active >> (8 * (lane & 7))) as u8;
+        if app_sel(own) == 0 {
+            0
+        } else {
+            with_app_sel(active) & with_data_path_id(active, data_path_id(own))
+        }
+    }
+
+    pub fn dp_state(&self, lane: u8) -> u8 {
+        self.nibble(DP_STATE, lane)
+    }
+
+    /// The group of the lowest lane of `selected`, which is not empty: the
+    /// selected lanes that are judged together with it.
+    #[inline]
+    pub fn first_group(&self, selected: u8) -> u8 {
+        let lane = selected.trailing_zeros() as u8;
+        let staged = self.word(STAGED_DP_CONFIG);
+        let own = (staged >> (8 * lane)) as u8;
+        if app_sel(own) != 0 {
+            selected & with_app_sel(staged) & with_data_path_id(staged, data_path_id(own))
+        } else {
+            let path = self.path_of(lane);
+            selected & !with_app_sel(staged) & (path | 1 << lane)
+        }
+    }
+
+    /// Writing `selected` to a trigger: every group without a lane already
+    /// in progress is marked, its settings held and its verdict fixed.
+    fn apply(&mut self, trigger: Trigger, selected: u8) {
+        if trigger == Trigger::ApplyImmediate
+            && self.image[CHARACTERISTICS] & STEPPED_CONFIG_ONLY != 0
+        {
+            return;
+        }
+        let mut left = selected;
+        while left != 0 {
+            let group = self.first_group(left);
+            left &= !group;
+            if !self.any_in_progress(group) {
+                self.mark(trigger, group);
+            }
+        }
+    }
+
+    /// Whether one of these lanes is in progress. By (a) of soundness that
+    /// shows in ConfigStatus, where all lanes are seen at once: a nibble of
+    /// `others` is 0 exactly for a lane of the set in progress.
+    #[inline(always)]
+    pub fn any_in_progress(&self, lanes: u8) -> bool {
+        const ONES: u32 = 0x1111_1111;
+        let other = self.half_word(CONFIG_STATUS) ^ (ONES * config_status::IN_PROGRESS as u32);
+        let others = other | !NIBBLES_OF[lanes as usize];
+        others.wrapping_sub(ONES) & !others & (8 * ONES) != 0
+    }
+
+    fn mark(&mut self, trigger: Trigger, group: u8) {
+        let verdict = self.verdict(trigger, group);
+        self.set_nibbles(CONFIG_STATUS, group, config_status::IN_PROGRESS);
+        for lane in LaneSet(group) {
+            let held = self.staged(lane);
+            self.lanes[lane as usize & 7].stage =
+                Stage::InProgress(Apply { group, trigger, held, verdict });
+        }
+    }
+
+    #[inline]
+    fn staged(&self, lane: u8) -> Settings {
+        let dp_config = self.image[STAGED_DP_CONFIG + (lane & 7) as usize];
+        Settings {
+            app_sel: app_sel(dp_config),
+            data_path_id: data_path_id(dp_config),
+            explicit_control: explicit_control(dp_config),
+            adaptive_eq: self.bit(STAGED_ADAPTIVE_EQ, lane),
+            cdr_tx: self.bit(STAGED_CDR_TX, lane),
+            cdr_rx: self.bit(STAGED_CDR_RX, lane),
+            input_eq: self.nibble(STAGED_INPUT_EQ, lane),
+            pre_cursor: self.nibble(STAGED_PRE_CURSOR, lane),
+            post_cursor: self.nibble(STAGED_POST_CURSOR, lane),
+            amplitude: self.nibble(STAGED_AMPLITUDE, lane),
+        }
+    }
+
+    /// Descriptor of an AppSel, if it is present.
+    #[inline]
+    pub fn descriptor(&self, app_sel: u8) -> Option<Descriptor> {
+        find_descriptor(self.image, app_sel)
+    }
+
+    /// The verdict on a group that is about to be marked.
+    fn verdict(&self, trigger: Trigger, group: u8) -> Verdict {
+        let first = group.trailing_zeros() as u8;
+        let staged = self.word(STAGED_DP_CONFIG);
+        let own = (staged >> (8 * first)) as u8;
+        let judged = if app_sel(own) == 0 {
+            self.judge_release(group, first)
+        } else {
+            self.judge_use(trigger, group, own, staged)
+        };
+        match judged {
+            Ok(()) => Verdict::Pass { next: first },
+            Err(code) => Verdict::Reject { code },
+        }
+    }
+
+    fn judge_release(&self, group: u8, first: u8) -> Result<(), u8> {
+        let path = self.path_of(first);
+        if path != 0 {
+            if path != group {
+                return Err(config_status::PARTIAL_DATA_PATH);
+            }
+            if self.dp_state(first) != dp_state::DEACTIVATED {
+                return Err(config_status::LANES_IN_USE);
+            }
+        }
+        Ok(())
+    }
+
+    fn judge_use(&self, trigger: Trigger, group: u8, own: u8, staged: u64) -> Result<(), u8> {
+        // The group shares a DataPathID; its AppSels may differ.
+        let others = staged ^ everywhere(own);
+        if nonzero_bytes(others & everywhere(0xF0)) & group != 0 {
+            return Err(config_status::INVALID_DATA_PATH);
+        }
+        let descriptor = match self.descriptor(app_sel(own)) {
+            Some(descriptor) => descriptor,
+            None => return Err(config_status::INVALID_APP_SEL),
+        };
+        let path = match descriptor.lanes_from(data_path_id(own)) {
+            Some(path) => path,
+            None => return Err(config_status::INVALID_DATA_PATH),
+        };
+        if group & !path != 0 {
+            return Err(config_status::INVALID_DATA_PATH);
+        }
+        if group != path {
+            return Err(config_status::PARTIAL_DATA_PATH);
+        }
+        // If the path of one used lane is the group, it is that of all lanes.
+        let used = self.used_lanes() & group;
+        if used != 0 && self.path_of(used.trailing_zeros() as u8) != group {
+            return Err(config_status::LANES_IN_USE);
+        }
+        let explicit = nonzero_bytes(staged & everywhere(0x01)) & group;
+        if !LaneSet(explicit).all(|lane| self.settings_allowed(lane)) {
+            return Err(config_status::INVALID_SI);
+        }
+        // From here the group is either unused or exactly one active path,
+        // so its first lane speaks for all.
+        let first = group.trailing_zeros() as u8;
+        match self.dp_state(first) {
+            dp_state::DEACTIVATED => Ok(()),
+            dp_state::INITIALIZED | dp_state::ACTIVATED => {
+                let active = self.image[ACTIVE_DP_CONFIG + (first & 7) as usize];
+                if trigger == Trigger::ApplyImmediate && app_sel(active) != app_sel(own) {
+                    Err(config_status::REJECTED)
+                } else {
+                    Ok(())
+                }
+            }
+            _ => Err(config_status::REJECTED),
+        }
+    }
+
+    /// Whether the staged signal integrity settings of a lane, which only
+    /// matter with ExplicitControl, keep to the advertised limits.
+    #[inline]
+    fn settings_allowed(&self, lane: u8) -> bool {
+        let eq_and_amplitudes = self.image[EQ_MAX_AND_AMPLITUDES];
+        let cursors = self.image[CURSOR_MAX];
+        let amplitude = self.nibble(STAGED_AMPLITUDE, lane);
+        self.nibble(STAGED_INPUT_EQ, lane) <= eq_and_amplitudes & 0xF
+            && self.nibble(STAGED_PRE_CURSOR, lane) <= cursors & 0xF
+            && self.nibble(STAGED_POST_CURSOR, lane) <= cursors >> 4
+            && amplitude <= 3
+            && eq_and_amplitudes >> (4 + amplitude) & 1 != 0
+    }
+
+    // ---- work ----
+
+    #[inline(always)]
+    fn work<const LATE: bool>(&mut self, lane: u8) -> Outcome {
+        if lane > 7 {
+            return Outcome::refused(answer::NO_SUCH_PLACE);
+        }
+        let apply = match self.lanes[lane as usize & 7].stage {
+            Stage::InProgress(apply) => apply,
+            Stage::Idle => return Outcome::refused(answer::NOTHING_THERE),
+        };
+        match apply.verdict {
+            Verdict::Reject { code } => {
+                self.close(apply.group, code);
+                Outcome::DONE
+            }
+            Verdict::Pass { next } if next != NO_NEXT_LANE => {
+                if !LATE {
+                    self.copy(next);
+                }
+                self.advance(apply.group, next);
+                Outcome::DONE
+            }
+            Verdict::Pass { .. } => {
+                if LATE {
+                    for lane in LaneSet(apply.group) {
+                        self.copy(lane);
+                    }
+                }
+                self.close(apply.group, config_status::SUCCESS);
+                let commission = self.account_for_pass(&apply);
+                Outcome { answer: answer::DONE, commission, read: 0 }
+            }
+        }
+    }
+
+    /// Moves a passing group on to its next lane after `copied`.
+    #[inline(always)]
+    fn advance(&mut self, group: u8, copied: u8) {
+        let above = group & !((2u32 << (copied & 7)) - 1) as u8;
+        // An empty byte has eight trailing zeros, which is NO_NEXT_LANE.
+        let next = above.trailing_zeros() as u8;
+        for lane in LaneSet(group) {
+            if let Stage::InProgress(apply) = &mut self.lanes[lane as usize & 7].stage {
+                apply.verdict = Verdict::Pass { next };
+            }
+        }
+    }
+
+    /// Copies a lane's held settings into the active set.
+    #[inline(always)]
+    fn copy(&mut self, lane: u8) {
+        let new = match self.lanes[lane as usize & 7].stage {
+            Stage::InProgress(apply) => apply.held.as_copied(),
+            Stage::Idle => return,
+        };
+        self.image[ACTIVE_DP_CONFIG + (lane & 7) as usize] =
+            new.app_sel << 4 | new.data_path_id << 1 | new.explicit_control as u8;
+        self.set_bit(ACTIVE_ADAPTIVE_EQ, lane, new.adaptive_eq);
+        self.set_bit(ACTIVE_CDR_TX, lane, new.cdr_tx);
+        self.set_bit(ACTIVE_CDR_RX, lane, new.cdr_rx);
+        self.set_nibble(ACTIVE_INPUT_EQ, lane, new.input_eq);
+        self.set_nibble(ACTIVE_PRE_CURSOR, lane, new.pre_cursor);
+        self.set_nibble(ACTIVE_POST_CURSOR, lane, new.post_cursor);
+        self.set_nibble(ACTIVE_AMPLITUDE, lane, new.amplitude);
+    }
+
+    /// Ends a group's Apply with a ConfigStatus code.
+    #[inline(always)]
+    fn close(&mut self, group: u8, code: u8) {
+        self.set_nibbles(CONFIG_STATUS, group, code);
+        for lane in LaneSet(group) {
+            self.lanes[lane as usize & 7] = LaneRecord::IDLE;
+        }
+    }
+
+    /// DPInitPending of a group that has just passed; gives the lanes that
+    /// the hardware has to commission.
+    #[inline(always)]
+    fn account_for_pass(&mut self, apply: &Apply) -> u8 {
+        if apply.held.app_sel == 0 {
+            self.image[DP_INIT_PENDING] &= !apply.group;
+            return 0;
+        }
+        match apply.trigger {
+            Trigger::ApplyDPInit => {
+                self.image[DP_INIT_PENDING] |= apply.group;
+                0
+            }
+            Trigger::ApplyImmediate => match self.dp_state(apply.group.trailing_zeros() as u8) {
+                dp_state::INITIALIZED | dp_state::ACTIVATED => apply.group,
+                _ => 0,
+            },
+        }
+    }
+
+    // ---- hardware, conditions, samples ----
+
+    #[inline(always)]
+    fn hardware(&mut self, lane: u8) -> Outcome {
+        if lane > 7 {
+            return Outcome::refused(answer::NO_SUCH_PLACE);
+        }
+        let path = self.path_of(lane);
+        if self.any_in_progress(path | 1 << lane) {
+            return Outcome::refused(answer::BUSY);
+        }
+        if path == 0 {
+            return Outcome::refused(answer::NOTHING_THERE);
+        }
+        use dp_state::*;
+        let deinit = self.image[DP_DEINIT] & path != 0;
+        let again = deinit || self.image[DP_INIT_PENDING] & path != 0;
+        let state = self.dp_state(lane);
+        let next = match state {
+            DEACTIVATED if !deinit => INIT,
+            INIT if deinit => DEINIT,
+            INIT => {
+                self.image[DP_INIT_PENDING] &= !path;
+                INITIALIZED
+            }
+            INITIALIZED if again => DEINIT,
+            INITIALIZED => TX_TURN_ON,
+            TX_TURN_ON if again => TX_TURN_OFF,
+            TX_TURN_ON => ACTIVATED,
+            ACTIVATED if again => TX_TURN_OFF,
+            TX_TURN_OFF => INITIALIZED,
+            DEINIT => DEACTIVATED,
+            _ => state,
+        };
+        if next != state {
+            self.set_nibbles(DP_STATE, path, next);
+            if let DEACTIVATED | INITIALIZED | ACTIVATED = next {
+                self.image[DP_STATE_CHANGED] |= path;
+            }
+        }
+        Outcome::DONE
+    }
+
+    #[inline(always)]
+    fn condition(&mut self, flag_byte: u8, mask: u8) -> Outcome {
+        match flag_byte {
+            135..=138 | 147 | 148 => {
+                self.image[P11 + flag_byte as usize] |= mask;
+                Outcome::DONE
+            }
+            _ => Outcome::refused(answer::NO_SUCH_PLACE),
+        }
+    }
+
+    #[inline(always)]
+    fn sample(&mut self, lane: u8, value: u16) -> Outcome {
+        if lane > 7 {
+            return Outcome::refused(answer::NO_SUCH_PLACE);
+        }
+        let place = RX_POWER + 2 * (lane & 7) as usize;
+        self.image[place..place + 2].copy_from_slice(&value.to_be_bytes());
+        let above_alarm = value > self.u16_at(RX_POWER_HIGH_ALARM);
+        let below_alarm = value < self.u16_at(RX_POWER_LOW_ALARM);
+        let above_warning = value > self.u16_at(RX_POWER_HIGH_WARNING);
+        let below_warning = value < self.u16_at(RX_POWER_LOW_WARNING);
+        self.image[RX_POWER_HIGH_ALARM_FLAG] |= (above_alarm as u8) << lane;
+        self.image[RX_POWER_LOW_ALARM_FLAG] |= (below_alarm as u8) << lane;
+        self.image[RX_POWER_HIGH_WARNING_FLAG] |= (above_warning as u8) << lane;
+        self.image[RX_POWER_LOW_WARNING_FLAG] |= (below_warning as u8) << lane;
+        Outcome::DONE
+    }
+}
+
+/// An access is not empty and ends in the half it begins in.
+#[inline(always)]
+fn within_its_half(address: u8, count: u8) -> bool {
+    count != 0 && (address & 127) as u32 + count as u32 <= 128
+}
+
+/// Descriptor of an AppSel of 1 to 8, if no descriptor up to it ends the
+/// list and its own host lane count is one a path can have.
+#[inline]
+pub fn find_descriptor(image: &[u8; IMAGE_LEN], app_sel: u8) -> Option<Descriptor> {
+    if app_sel == 0 || app_sel > 8 {
+        return None;
+    }
+    let mut place = DESCRIPTORS;
+    for _ in 1..app_sel {
+        if image[place] == DESCRIPTOR_END {
+            return None;
+        }
+        place += 4;
+    }
+    let lane_count = image[place + 2] >> 4;
+    if image[place] == DESCRIPTOR_END || lane_count == 0 || lane_count > 8 {
+        return None;
+    }
+    Some(Descriptor { lane_count, first_lanes: image[place + 3] })
+}
+
+/// The lanes of a set, lowest first.
+#[derive(Clone, Copy)]
+pub struct LaneSet(pub u8);
+
+impl Iterator for LaneSet {
+    type Item = u8;
+
+    #[inline(always)]
+    fn next(&mut self) -> Option<u8> {
+        if self.0 == 0 {
+            None
+        } else {
+            let lane = self.0.trailing_zeros() as u8;
+            self.0 &= self.0 - 1;
+            Some(lane)
+        }
+    }
+}
