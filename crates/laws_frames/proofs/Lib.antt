@@ -1,0 +1,6 @@
+-- What each change of the image leaves of each register.
+pub mod Outside
+pub mod Registers
+pub mod Changes
+pub mod Back
+pub mod Stages

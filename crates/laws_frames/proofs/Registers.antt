@@ -1,0 +1,136 @@
+-- Each register reads only the bytes of its range. Assumes nothing.
+use mathlib.Core.Path.{_≡_, refl}
+use mathlib.Core.Bool.{true}
+use Prim.Native.Nat.{ℕ, zero, suc, _+_, _-_, _*_, _%_, _≤_, _<_}
+use native.Mathlib.Omega.{arith}
+use lib.Dec.{eqb, leb}
+use lib.ListN.{getD}
+use borrow.Author.Tests.{leb-true, eqb-true}
+use Rattle.bits.specs.Choice.{both, pick}
+use Rattle.bits.specs.Place.{get}
+use Rattle.bits.specs.Lane.{laneField}
+use Rattle.bits.specs.Loop.{allBelow}
+use Rattle.bits.specs.Word.{word}
+use Rattle.bits.proofs.Tests.{split, both-l, both-r}
+use Rattle.bits.proofs.Lanes.{lane-in}
+use Rattle.bits.proofs.Loops.{all-at, all-ext, tab-ext}
+use Rattle.bits.proofs.Words.{word-ext}
+use Rattle.model.specs.Map.{Image, stateAt, statusAt, pendingAt, settingAt, settingOffsets, settingWidths, equalizerLimit, preLimit, postLimit, amplitudeSupport}
+use Rattle.model.specs.Applications.{descriptorAt, listReaches, hostLaneCount, isPresent, lookup}
+use Rattle.model.specs.View.{settingsAt, settingsOf, statesOf, applicationsOf, limitsOf}
+use Rattle.model.specs.declared.lane.Settings.{Settings}
+use Rattle.laws_frames.proofs.Outside.{SameWithin, get-same, get-within}
+
+-- ---- where lane fields lie
+
+pub lane-from : (base w l : ℕ) → l < 8 → 8 % w ≡ 0 → base ≤ laneField base w l .byte
+lane-from base w l b e = lane-in base w l b e .0
+
+pub lane-to : (base w l : ℕ) → l < 8 → 8 % w ≡ 0 → laneField base w l .byte < base + w
+lane-to base w l b e = lane-in base w l b e .1
+
+-- ---- states, statuses, pending bits
+
+pub state-same : (x y : Image) (l : ℕ) → l < 8 → SameWithin 640 644 x y → get y (stateAt l) ≡ get x (stateAt l)
+state-same x y l b s = get-within x y (stateAt l) (lane-from 640 4 l b refl) (lane-to 640 4 l b refl) s
+
+pub states-same : (x y : Image) → SameWithin 640 644 x y → statesOf y ≡ statesOf x
+unfolding statesOf
+states-same x y s = tab-ext 8 _ _ (λ l b. state-same x y l b s)
+
+pub status-same : (x y : Image) (l : ℕ) → l < 8 → SameWithin 714 718 x y → get y (statusAt l) ≡ get x (statusAt l)
+status-same x y l b s = get-within x y (statusAt l) (lane-from 714 4 l b refl) (lane-to 714 4 l b refl) s
+
+pub pending-same : (x y : Image) (l : ℕ) → l < 8 → SameWithin 747 748 x y → get y (pendingAt l) ≡ get x (pendingAt l)
+pending-same x y l b s = get-within x y (pendingAt l) (lane-from 747 1 l b refl) (lane-to 747 1 l b refl) s
+
+-- ---- settings
+
+-- the number of bytes that a set of settings takes
+abbrev pub setLength : ℕ
+setLength = 29
+
+setting-fits : allBelow 8 (λ k. both (leb (getD settingOffsets k 0 + getD settingWidths k 0) setLength) (eqb (8 % getD settingWidths k 0) 0)) ≡ true
+unfolding allBelow both
+setting-fits = refl
+
+pub setting-width : (k : ℕ) → k < 8 → 8 % getD settingWidths k 0 ≡ 0
+setting-width k h = eqb-true _ _ (both-r _ _ (all-at 8 _ setting-fits k h))
+
+setting-end : (k : ℕ) → k < 8 → getD settingOffsets k 0 + getD settingWidths k 0 ≤ setLength
+setting-end k h = leb-true _ _ (both-l _ _ (all-at 8 _ setting-fits k h))
+
+pub setting-from : (base k l : ℕ) → k < 8 → l < 8 → base ≤ settingAt base k l .byte
+unfolding settingAt
+setting-from base k l h b = omega (arith, lane-from (base + getD settingOffsets k 0) (getD settingWidths k 0) l b (setting-width k h))
+
+pub setting-to : (base k l : ℕ) → k < 8 → l < 8 → settingAt base k l .byte < base + setLength
+unfolding settingAt
+setting-to base k l h b =
+    omega (arith, lane-to (base + getD settingOffsets k 0) (getD settingWidths k 0) l b (setting-width k h), setting-end k h)
+
+-- what holds of each of the eight settings
+pub by-setting : (P : ℕ → Type 0) → P 0 → P 1 → P 2 → P 3 → P 4 → P 5 → P 6 → P 7 → (k : ℕ) → k < 8 → P k
+by-setting P a b c d e f g h zero l = a
+by-setting P a b c d e f g h (suc zero) l = b
+by-setting P a b c d e f g h (suc (suc zero)) l = c
+by-setting P a b c d e f g h (suc (suc (suc zero))) l = d
+by-setting P a b c d e f g h (suc (suc (suc (suc zero)))) l = e
+by-setting P a b c d e f g h (suc (suc (suc (suc (suc zero))))) l = f
+by-setting P a b c d e f g h (suc (suc (suc (suc (suc (suc zero)))))) l = g
+by-setting P a b c d e f g h (suc (suc (suc (suc (suc (suc (suc zero))))))) l = h
+by-setting P a b c d e f g h (suc (suc (suc (suc (suc (suc (suc (suc k)))))))) l = absurd (omega arith)
+
+pub settings-path : {h k : Settings} → h .config ≡ k .config → h .adaptive ≡ k .adaptive → h .equalizer ≡ k .equalizer → h .«cdr_tx» ≡ k .«cdr_tx»
+    → h .«cdr_rx» ≡ k .«cdr_rx» → h .pre ≡ k .pre → h .post ≡ k .post → h .amplitude ≡ k .amplitude → h ≡ k
+settings-path a b c d e f g h =
+    λ i. record { config = a i; adaptive = b i; equalizer = c i; «cdr_tx» = d i; «cdr_rx» = e i; pre = f i; post = g i; amplitude = h i }
+
+-- a lane's settings are the same where their places read the same
+pub settings-at-same : (base : ℕ) (x y : Image) (l : ℕ) → ((k : ℕ) → k < 8 → get y (settingAt base k l) ≡ get x (settingAt base k l))
+    → settingsAt base y l ≡ settingsAt base x l
+unfolding settingsAt
+settings-at-same base x y l h =
+    settings-path (h 0 (omega arith)) (h 1 (omega arith)) (h 2 (omega arith)) (h 3 (omega arith))
+    (h 4 (omega arith)) (h 5 (omega arith)) (h 6 (omega arith)) (h 7 (omega arith))
+
+pub settings-same : (base : ℕ) (x y : Image) → SameWithin base (base + setLength) x y → settingsOf base y ≡ settingsOf base x
+unfolding settingsOf
+settings-same base x y s = tab-ext 8 _ _ (λ l b. settings-at-same base x y l (λ k h.
+    get-within x y (settingAt base k l) (setting-from base k l h b) (setting-to base k l h b) s))
+
+-- ---- Applications, limits
+
+pub limits-same : (x y : Image) → SameWithin 281 283 x y → limitsOf y ≡ limitsOf x
+unfolding limitsOf
+limits-same x y s = λ i. record {
+  equalizer = get-same x y equalizerLimit (s 281 (omega arith) (omega arith)) i;
+  pre = get-same x y preLimit (s 282 (omega arith) (omega arith)) i;
+  post = get-same x y postLimit (s 282 (omega arith) (omega arith)) i;
+  amplitudes = get-same x y amplitudeSupport (s 281 (omega arith) (omega arith)) i;
+}
+
+reaches-same : (x y : Image) (a : ℕ) → a ≤ 8 → SameWithin 86 118 x y → listReaches y a ≡ listReaches x a
+unfolding listReaches descriptorAt
+reaches-same x y a h s = all-ext a _ _ (λ k b. rw (s (86 + 4 * ((k + 1) - 1)) (omega arith) (omega arith)))
+
+count-same : (x y : Image) (a : ℕ) → 1 ≤ a → a ≤ 8 → SameWithin 86 118 x y → hostLaneCount y a ≡ hostLaneCount x a
+unfolding hostLaneCount descriptorAt
+count-same x y a g h s = rw (s ((86 + 4 * (a - 1)) + 2) (omega arith) (omega arith))
+
+pub lookup-same : (x y : Image) (a : ℕ) → SameWithin 86 118 x y → lookup y a ≡ lookup x a
+unfolding lookup isPresent descriptorAt both pick
+lookup-same x y a s = split (both (leb 1 a) (leb a 8))
+    (λ r. let g : 1 ≤ a = leb-true 1 a (both-l (leb 1 a) (leb a 8) r) in
+    let h : a ≤ 8 = leb-true a 8 (both-r (leb 1 a) (leb a 8) r) in
+    rw (reaches-same x y a h s, count-same x y a g h s, s ((86 + 4 * (a - 1)) + 3) (omega arith) (omega arith)))
+    (λ r. rw (r, both, pick))
+
+pub applications-same : (x y : Image) → SameWithin 86 118 x y → applicationsOf y ≡ applicationsOf x
+unfolding applicationsOf
+applications-same x y s = tab-ext 16 _ _ (λ a b. lookup-same x y a s)
+
+-- ---- words
+
+pub word-same : (n at : ℕ) (x y : Image) → SameWithin at (at + n) x y → word n y at ≡ word n x at
+word-same n at x y s = word-ext n y x at (λ k b. s (at + k) (omega arith) (omega arith))

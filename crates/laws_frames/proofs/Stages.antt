@@ -1,0 +1,37 @@
+-- The lanes' stages after a change of the working state. Assumes nothing.
+use mathlib.Core.Path.{_≡_, ap, _∙_}
+use mathlib.Core.Bool.{true, false}
+use Prim.Native.Nat.{ℕ, _<_}
+use Rattle.bits.specs.Sets.{has}
+use Rattle.bits.proofs.Tests.{pick-true, pick-false}
+use Rattle.bits.proofs.Loops.{tab-at}
+use Rattle.model.specs.Lanes.{idleRecord, idleWorking, recordAt, stageAt, withStage, withStages, withVerdict, freed, advanced}
+use Rattle.model.specs.declared.lane.Verdict.the-variants.{Pass}
+use Rattle.model.specs.declared.lane.Stage.{Stage}
+use Rattle.model.specs.declared.lane.Stage.the-variants.{Idle}
+use Rattle.model.specs.declared.lane.LaneRecord.{LaneRecord}
+use Rattle.model.specs.declared.lane.Working.{Working}
+
+pub idle-stage : (l : ℕ) → l < 8 → stageAt idleWorking l ≡ Idle
+idle-stage l b = ap (λ (r : LaneRecord). r .stage) (tab-at 8 (λ k. idleRecord) l idleRecord b)
+
+module _ (w : Working) where
+  pub stage-in : (f : ℕ → Stage) (l : ℕ) → l < 8 → stageAt (withStages w f) l ≡ f l
+  unfolding withStages withStage
+  stage-in f l b = ap (λ (r : LaneRecord). r .stage) (tab-at 8 (λ k. withStage (recordAt w k) (f k)) l idleRecord b)
+
+  pub freed-in : (g l : ℕ) → l < 8 → has g l ≡ true → stageAt (freed w g) l ≡ Idle
+  unfolding freed
+  freed-in g l b i = stage-in _ l b ∙ pick-true _ _ i
+
+  pub freed-out : (g l : ℕ) → l < 8 → has g l ≡ false → stageAt (freed w g) l ≡ stageAt w l
+  unfolding freed
+  freed-out g l b i = stage-in _ l b ∙ pick-false _ _ i
+
+  pub advanced-in : (g n l : ℕ) → l < 8 → has g l ≡ true → stageAt (advanced w g n) l ≡ withVerdict (stageAt w l) (Pass n)
+  unfolding advanced
+  advanced-in g n l b i = stage-in _ l b ∙ pick-true _ _ i
+
+  pub advanced-out : (g n l : ℕ) → l < 8 → has g l ≡ false → stageAt (advanced w g n) l ≡ stageAt w l
+  unfolding advanced
+  advanced-out g n l b i = stage-in _ l b ∙ pick-false _ _ i

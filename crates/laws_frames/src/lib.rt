@@ -1,0 +1,1 @@
+// What each change of the image leaves of each register: theorems alone, no code.

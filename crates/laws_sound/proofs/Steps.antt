@@ -1,0 +1,158 @@
+-- Every event keeps the invariant: triggers, written bytes, and each kind of call. Assumes nothing.
+use mathlib.Core.Path.{_≡_, refl, _∙_}
+use mathlib.Core.Bool.{Bool, true, false}
+use mathlib.Core.List.{List, [], _∷_}
+use mathlib.Core.Logic.{inl}
+use Prim.Native.Nat.{ℕ, suc, _<_}
+use native.Mathlib.Omega.{arith}
+use lib.Dec.{eqb}
+use lib.ListN.{take}
+use borrow.Author.Tests.{ltb-true, not-false}
+use Rattle.bits.specs.Choice.{pick}
+use Rattle.bits.specs.Place.{get}
+use Rattle.bits.proofs.Tests.{split, clash, either-l, pick-true, pick-false}
+use Rattle.model.specs.Map.{Image, pageSelect, applyDPInit, applyImmediate, stagedSet0, writable, activeSet, statusAt, pendingAt}
+use Rattle.model.specs.Statuses.{inProgress}
+use Rattle.model.specs.Answers.{isDone}
+use Rattle.model.specs.Lanes.{stageAt, isInProgress, withStages}
+use Rattle.model.specs.View.{View, viewOf, settingsOf, of, isUsed}
+use Rattle.model.specs.Triggers.{State, withStatus, isMarked, stageAfter, marked, isIgnored, triggered}
+use Rattle.model.specs.Work.{early}
+use Rattle.model.specs.Access.{stored, byteWritten, bytesWritten}
+use Rattle.model.specs.Refusals.{Refusal, firstOf, noSuchLane, isBusy, isUnused, eventRefusals}
+use Rattle.model.specs.Step.{readAt, carried, done, refused, answered, step, ending}
+use Rattle.model.specs.declared.lane.Trigger.{Trigger}
+use Rattle.model.specs.declared.lane.Trigger.the-variants.{DpInit, Immediate}
+use Rattle.model.specs.declared.event.Call.{Call}
+use Rattle.model.specs.declared.event.Call.the-variants.{Write, Read, Work, Hardware, Condition, Sample}
+use Rattle.model.specs.declared.event.Event.{Event}
+use Rattle.laws_frames.proofs.Outside.{SameOutside, below-range, above-range}
+use Rattle.laws_frames.proofs.Registers.{settings-same, states-same, applications-same, pending-same}
+use Rattle.laws_frames.proofs.Changes.{status-outside}
+use Rattle.laws_frames.proofs.Back.{status-in, status-out, read-fits}
+use Rattle.laws_frames.proofs.Stages.{stage-in}
+use Rattle.laws_sound.proofs.Sound.{Seen, seenOf}
+use Rattle.laws_sound.proofs.Closing.{quiet-sound}
+use Rattle.laws_sound.proofs.Marking.{marking}
+use Rattle.laws_sound.proofs.Quiet.{Well, quiet-well, set-quiet, selected-quiet, settled-quiet, sampled-quiet, condition-quiet, cleared-quiet}
+use Rattle.laws_sound.proofs.WorkSteps.{settings-lane, work-well}
+use Rattle.laws_sound.proofs.PathEvents.{hardware-well}
+
+-- a choice between two states that are well
+pick-well : (two : ℕ) (c : Bool) (s t : State) → (c ≡ true → Well two s) → (c ≡ false → Well two t) → Well two (pick c s t)
+unfolding pick
+pick-well two true s t f h = f refl
+pick-well two false s t f h = h refl
+
+-- ---- triggers
+
+marked-well : (two : ℕ) (t : Trigger) (base : ℕ) (s : State) (sel : ℕ) → Well two s → Well two (marked t (viewOf base (s .image)) s sel)
+unfolding marked viewOf
+marked-well two t base s sel W = record {
+  size = changed .size ∙ W .size;
+  low = changed .byte 2 (inl (omega arith)) ∙ W .low;
+  sound =
+      rw (
+        settings-same activeSet (s .image) y (above-range 718 747 (omega arith) changed),
+        states-same (s .image) y (below-range 640 644 (omega arith) changed),
+        applications-same (s .image) y (below-range 86 118 (omega arith) changed),
+      )
+      (quiet-sound after (after .status) (λ l. get y (pendingAt l)) (λ l b. refl)
+      (λ l b. pending-same (s .image) y l b (above-range 747 748 (omega arith) changed))
+      (marking t v (s .working) sel (seenOf s .status) (seenOf s .pending) (W .sound) (after .stage) (after .status)
+      (λ l b. stage-in (s .working) (stageAfter t v (s .working) sel) l b)
+      (λ l b k. status-in (s .image) l (W .size) b c inProgress (omega arith) k)
+      (λ l b k. status-out (s .image) l (W .size) b c inProgress k)
+      (λ l b. rw (settings-lane base (s .image) l b) (read-fits base (s .image) l))));
+}
+  where
+    v : View
+    v = viewOf base (s .image)
+
+    c : ℕ → Bool
+    c = isMarked v (s .working) sel
+
+    y : Image
+    y = withStatus c inProgress (s .image)
+
+    changed : SameOutside 714 718 (s .image) y
+    changed = status-outside c inProgress (s .image)
+
+    after : Seen
+    after = record {
+      stage = stageAt (withStages (s .working) (stageAfter t v (s .working) sel));
+      active = seenOf s .active;
+      states = seenOf s .states;
+      applications = seenOf s .applications;
+      status = λ l. get y (statusAt l);
+      pending = seenOf s .pending;
+    }
+
+triggered-well : (two : ℕ) (t : Trigger) (base : ℕ) (s : State) (sel : ℕ) → Well two s → Well two (triggered t base s sel)
+unfolding triggered
+triggered-well two t base s sel W = pick-well two (isIgnored t (s .image)) _ _ (λ e. W) (λ e. marked-well two t base s sel W)
+
+-- ---- written bytes
+
+stored-well : (two i v : ℕ) (s : State) → Well two s → Well two (stored i v s)
+unfolding stored
+stored-well two i v s W =
+    pick-well two (eqb i pageSelect) _ _ (λ e. quiet-well two (s .image) _ (s .working) (selected-quiet v (s .image)) W)
+    (λ e. pick-well two (eqb i applyDPInit) _ _ (λ e. triggered-well two DpInit stagedSet0 s v W)
+    (λ e. pick-well two (eqb i applyImmediate) _ _ (λ e. triggered-well two Immediate stagedSet0 s v W)
+    (λ e. pick-well two (writable i) _ _ (λ e. quiet-well two (s .image) _ (s .working) (set-quiet (s .image) i v e) W) (λ e. W))))
+
+bytes-well : (two address : ℕ) (vs : List ℕ) (s : State) → Well two s → Well two (bytesWritten address vs s)
+unfolding bytesWritten byteWritten
+bytes-well two address [] s W = W
+bytes-well two address (v ∷ vs) s W = bytes-well two (suc address) vs _ (stored-well two _ v s W)
+
+-- ---- calls that are not refused
+
+pub not-refused : (r : Refusal) (rs : List Refusal) → isDone (r .answer) ≡ false → isDone (firstOf (r ∷ rs)) ≡ true
+    → (r .when ≡ false) × (isDone (firstOf rs) ≡ true)
+unfolding firstOf
+not-refused r rs n e = split (r .when)
+    (λ w. absurd (clash (rw (pick-true _ _ w) at e) n))
+    (λ w. (w, rw (pick-false _ _ w) at e))
+
+a-lane : (l : ℕ) → noSuchLane l ≡ false → l < 8
+unfolding noSuchLane
+a-lane l e = ltb-true l 8 (not-false _ e)
+
+not-busy : (s : State) (l : ℕ) → isBusy s l ≡ false → isInProgress (stageAt (s .working) l) ≡ false
+unfolding isBusy
+not-busy s l e = either-l _ _ e
+
+not-unused : (s : State) (l : ℕ) → isUnused s l ≡ false → isUsed (of (settingsOf activeSet (s .image)) l) ≡ true
+unfolding isUnused
+not-unused s l e = not-false _ e
+
+carried-well : (two room : ℕ) (s : State) (bytes : List ℕ) (call : Call) → Well two s → isDone (firstOf (eventRefusals room s call)) ≡ true
+    → Well two (carried early s bytes call .state)
+unfolding carried readAt eventRefusals isDone
+carried-well two room s bytes (Write address count) W e = bytes-well two address (take count bytes) s W
+carried-well two room s bytes (Read address count) W e = quiet-well two (s .image) _ (s .working) (cleared-quiet (s .image) _ count) W
+carried-well two room s bytes (Work l) W e = work-well two s l W (a-lane l (not-refused _ _ refl e .0))
+carried-well two room s bytes (Hardware l) W e =
+    let r₁ = not-refused _ _ refl e in
+    let r₂ = not-refused _ _ refl (r₁ .1) in
+    let r₃ = not-refused _ _ refl (r₂ .1) in
+    hardware-well two s W l (a-lane l (r₁ .0)) (not-busy s l (r₂ .0)) (not-unused s l (r₃ .0))
+carried-well two room s bytes (Condition flag mask) W e =
+    quiet-well two (s .image) _ (s .working) (condition-quiet flag mask (s .image) (not-false _ (not-refused _ _ refl e .0))) W
+carried-well two room s bytes (Sample l p) W e =
+    quiet-well two (s .image) _ (s .working) (sampled-quiet l p (s .image) (a-lane l (not-refused _ _ refl e .0))) W
+
+-- ---- every event, refused or done; every run
+
+pub step-well : (two room : ℕ) (s : State) (e : Event) → Well two s → Well two (step early room s e .state)
+unfolding step answered done refused
+step-well two room s e W = split (isDone (firstOf (eventRefusals room s (e .call))))
+    (λ d. rw (pick-true _ _ d) (quiet-well two _ _ _ (settled-quiet _) (carried-well two room s (e .bytes) (e .call) W d)))
+    (λ d. rw (pick-false _ _ d) W)
+
+pub ending-well : (two room : ℕ) (s : State) (es : List Event) → Well two s → Well two (ending early room s es)
+unfolding ending
+ending-well two room s [] W = W
+ending-well two room s (e ∷ es) W = ending-well two room _ es (step-well two room s e W)

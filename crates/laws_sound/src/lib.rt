@@ -1,0 +1,1 @@
+// Soundness holds from start on, whatever happens: theorems alone, no code.

@@ -1,0 +1,139 @@
+-- Two images that are alike but for active-setting bits of some lanes are so after every change but the copying. Assumes nothing.
+use mathlib.Core.Path.{_≡_, refl, sym}
+use mathlib.Core.Bool.{Bool, true, false}
+use Prim.Native.Nat.{ℕ, _+_, _*_, _/_, _%_, _≤_, _<_}
+use native.Mathlib.Omega.{arith}
+use lib.Dec.{eqb}
+use lib.ListN.{getD, set}
+use Rattle.bits.specs.Choice.{pick, onlyIf, both}
+use Rattle.bits.specs.Place.{get, put, digit}
+use Rattle.bits.specs.Sets.{has}
+use Rattle.bits.specs.Word.{putWord}
+use Rattle.bits.proofs.Loops.{each-two, any-ext}
+use Rattle.model.specs.Map.{Image, stateAt, statusAt, pendingAt, deinitAt, flagAt, interruptBit, steppedBit, receivedPower, clearing}
+use Rattle.model.specs.Groups.{someIn}
+use Rattle.model.specs.Triggers.{withStatus, isIgnored}
+use Rattle.model.specs.PathStates.{codeOf}
+use Rattle.model.specs.Work.{withPending, pendingAfter}
+use Rattle.model.specs.Hardware.{toDeinit, toReinit, nextState, withState, withFlags, entered, moved, movedPath}
+use Rattle.model.specs.Flags.{raised, sampled, isUnmasked, interrupts, settled, conditionSet, power}
+use Rattle.model.specs.Pages.{withPage, pagePlace, selectedStart, placeOf, pageSelected}
+use Rattle.model.specs.Access.{cleared}
+use Rattle.model.specs.declared.lane.Trigger.{Trigger}
+use Rattle.model.specs.declared.lane.Trigger.the-variants.{DpInit, Immediate}
+use Rattle.model.specs.declared.page.PagePlace.{PagePlace}
+use Rattle.model.specs.declared.page.PagePlace.the-variants.{Unsupported, At}
+use Rattle.model.specs.declared.path.PathState.{PathState}
+use Rattle.laws_frames.proofs.Outside.{get-same}
+use Rattle.laws_frames.proofs.Registers.{pending-same, state-same, word-same, lane-to}
+use Rattle.laws_whole.specs.Whole.{activeBitOf, Alike}
+use Rattle.laws_whole.proofs.Agree.{alike-put, alike-set, alike-puts, alike-below, alike-above}
+
+-- ---- whatever may differ
+module _ (except : ℕ → ℕ → Bool) where
+  alike-only : (t : Bool) (f : Image → Image) (x y : Image) → (Alike except x y → Alike except (f x) (f y)) → Alike except x y → Alike except (onlyIf t f x) (onlyIf t f y)
+  unfolding onlyIf
+  alike-only true f x y h A = h A
+  alike-only false f x y h A = A
+
+  pub alike-status : (c d : ℕ → Bool) (code : ℕ) (x y : Image) → ((l : ℕ) → l < 8 → c l ≡ d l) → Alike except x y → Alike except (withStatus c code x) (withStatus d code y)
+  unfolding withStatus
+  alike-status c d code x y e A = alike-puts except c d statusAt code 8 x y e A
+
+  alike-pending : (c : ℕ → Bool) (v : ℕ) (x y : Image) → Alike except x y → Alike except (withPending c v x) (withPending c v y)
+  unfolding withPending
+  alike-pending c v x y A = alike-puts except c c pendingAt v 8 x y (λ l b. refl) A
+
+  pub alike-after : (r : Bool) (t : Trigger) (g : ℕ) (x y : Image) → Alike except x y → Alike except (pendingAfter r t g x) (pendingAfter r t g y)
+  unfolding pendingAfter
+  alike-after true t g x y A = alike-pending (has g) 0 x y A
+  alike-after false DpInit g x y A = alike-pending (has g) 1 x y A
+  alike-after false Immediate g x y A = A
+
+  alike-flags : (address g : ℕ) (x y : Image) → Alike except x y → Alike except (withFlags address g x) (withFlags address g y)
+  unfolding withFlags
+  alike-flags address g x y A = alike-puts except (has g) (has g) (flagAt address) 1 8 x y (λ l b. refl) A
+
+  pub alike-condition : (flag mask : ℕ) (x y : Image) → Alike except x y → Alike except (conditionSet flag mask x) (conditionSet flag mask y)
+  unfolding conditionSet
+  alike-condition flag mask x y A = alike-flags flag mask x y A
+
+  alike-state : (g : ℕ) (to : PathState) (x y : Image) → Alike except x y → Alike except (withState g to x) (withState g to y)
+  unfolding withState
+  alike-state g to x y A = alike-puts except (has g) (has g) stateAt (codeOf to) 8 x y (λ l b. refl) A
+
+  alike-entered : (g : ℕ) (from to : PathState) (x y : Image) → Alike except x y → Alike except (entered g from to x) (entered g from to y)
+  unfolding entered
+  alike-entered g from to x y A = alike-only _ _ _ _ (alike-flags 134 g _ _) (alike-only _ _ _ _ (alike-pending (has g) 0 _ _) (alike-state g to x y A))
+
+  alike-raised : (test : Bool) (flag l : ℕ) (x y : Image) → Alike except x y → Alike except (raised test flag l x) (raised test flag l y)
+  unfolding raised
+  alike-raised test flag l x y A = alike-only test (λ z. put z (flagAt flag l) 1) x y (alike-put except x y (flagAt flag l) 1) A
+
+  alike-word : (at v : ℕ) (x y : Image) → Alike except x y → Alike except (putWord 2 x at v) (putWord 2 y at v)
+  unfolding putWord
+  alike-word at v x y A = alike-set except _ _ (at + 1) (v % 256) (alike-set except x y (at + 0) (v / 256 % 256) A)
+
+  alike-page : (place : PagePlace) (page : ℕ) (x y : Image) → Alike except x y → Alike except (withPage place page x) (withPage place page y)
+  alike-page Unsupported page x y A = alike-set except _ _ 127 0 (alike-set except x y 126 0 A)
+  alike-page (At start) page x y A = alike-set except x y 127 page A
+
+  pub alike-cleared : (i n : ℕ) (x y : Image) → Alike except x y → Alike except (cleared x i n) (cleared y i n)
+  unfolding cleared
+  alike-cleared i n x y A = each-two (Alike except) (λ k. clearing (i + k)) (λ k z. set z (i + k) 0) (λ k z. set z (i + k) 0) n
+      (λ k u z b t. alike-set except u z (i + k) 0) x y A
+
+-- ---- active-setting bits of the lanes of c may differ: everything else that is looked at is the same
+module _ (c : ℕ → Bool) (x y : Image) (A : Alike (activeBitOf c) x y) where
+  pub low : (i : ℕ) → i < 718 → getD y i 0 ≡ getD x i 0
+  low i b = sym (alike-below c x y A i b)
+
+  pub ignored-same : (t : Trigger) → isIgnored t y ≡ isIgnored t x
+  unfolding isIgnored
+  ignored-same DpInit = refl
+  ignored-same Immediate = rw (get-same x y steppedBit (low 2 (omega arith)))
+
+  pub place-same : (address : ℕ) → placeOf y address ≡ placeOf x address
+  unfolding placeOf selectedStart
+  place-same address = rw (low 126 (omega arith), low 127 (omega arith))
+
+  pub alike-selected : (page : ℕ) → Alike (activeBitOf c) (pageSelected page x) (pageSelected page y)
+  unfolding pageSelected
+  alike-selected page = rw (low 126 (omega arith)) (alike-page (activeBitOf c) (pagePlace (getD x 126 0) page) page x y A)
+
+  interrupts-same : interrupts y ≡ interrupts x
+  unfolding interrupts isUnmasked digit
+  interrupts-same = any-ext 20 _ _ (λ k hk. any-ext 8 _ _ (λ b hb. rw (low (646 + k) (omega arith), low (597 + k) (omega arith))))
+
+  pub alike-settled : Alike (activeBitOf c) (settled x) (settled y)
+  unfolding settled
+  alike-settled = rw interrupts-same (alike-put (activeBitOf c) x y interruptBit (pick (interrupts x) 0 1) A)
+
+  limit-same : (at : ℕ) → at + 2 ≤ 718 → power y at ≡ power x at
+  limit-same at h = word-same 2 at x y (λ i a b. low i (omega arith))
+
+  pub alike-sampled : (l p : ℕ) → Alike (activeBitOf c) (sampled l p x) (sampled l p y)
+  unfolding sampled
+  alike-sampled l p = rw (limit-same 448 (omega arith), limit-same 450 (omega arith), limit-same 452 (omega arith), limit-same 454 (omega arith))
+      (alike-raised (activeBitOf c) _ 152 l _ _ (alike-raised (activeBitOf c) _ 151 l _ _
+      (alike-raised (activeBitOf c) _ 150 l _ _ (alike-raised (activeBitOf c) _ 149 l _ _ (alike-word (activeBitOf c) (receivedPower + 2 * l) p x y A)))))
+
+  pub state-read : (l : ℕ) → l < 8 → get y (stateAt l) ≡ get x (stateAt l)
+  state-read l b = state-same x y l b (λ i a h. low i (omega arith))
+
+  deinit-same : (g : ℕ) → toDeinit y g ≡ toDeinit x g
+  unfolding toDeinit someIn
+  deinit-same g = any-ext 8 _ _ (λ m b. rw (get-same x y (deinitAt m) (low _ (omega (arith, lane-to 512 1 m b refl)))))
+
+  reinit-same : (g : ℕ) → toReinit y g ≡ toReinit x g
+  unfolding toReinit someIn
+  reinit-same g = rw (
+    deinit-same g,
+    any-ext 8 (λ m. both (has g m) (eqb (get y (pendingAt m)) 1)) (λ m. both (has g m) (eqb (get x (pendingAt m)) 1))
+        (λ m b. rw (pending-same x y m b (λ i a h. sym (alike-above c x y A i (omega arith))))),
+  )
+
+  pub alike-moved : (g : ℕ) (from : PathState) → Alike (activeBitOf c) (movedPath x g from) (movedPath y g from)
+  unfolding movedPath moved
+  alike-moved g from = rw (deinit-same g, reinit-same g)
+      (alike-only (activeBitOf c) _ (entered g from (nextState from (toDeinit x g) (toReinit x g))) x y (alike-entered (activeBitOf c) g from _ x y) A)

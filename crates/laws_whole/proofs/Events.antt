@@ -1,0 +1,164 @@
+-- Every event in both runs: the same refusals, and what is carried out leaves a pair again.
+use mathlib.Core.Path.{_≡_, refl, sym, _∙_}
+use mathlib.Core.Bool.{true, false, not}
+use mathlib.Core.List.{List, []}
+use Prim.Native.Nat.{ℕ, _+_, _≤_, _<_}
+use native.Mathlib.Decide.{decLt}
+use native.Mathlib.Omega.{arith}
+use lib.Dec.{eqb, ltb}
+use lib.ListN.{length, take, length-take}
+use borrow.Author.Tests.{ltb-true, ltb-false, not-false}
+use Rattle.bits.specs.Choice.{pick, either}
+use Rattle.bits.specs.Number.{field}
+use Rattle.bits.specs.Place.{get, digit}
+use Rattle.bits.proofs.Tests.{split, either-l, either-r}
+use Rattle.bits.proofs.Loops.{tab-at, tab-past, length-tab}
+use Rattle.model.specs.Map.{Image, applyDPInit, applyImmediate, stateAt}
+use Rattle.model.specs.Answers.{isDone}
+use Rattle.model.specs.PathStates.{stateOf}
+use Rattle.model.specs.Lanes.{stageAt, isInProgress}
+use Rattle.model.specs.View.{pathOf}
+use Rattle.model.specs.Triggers.{State}
+use Rattle.model.specs.Work.{early, late}
+use Rattle.model.specs.Hardware.{hardwareMoved}
+use Rattle.model.specs.Flags.{isConditionFlag, settled}
+use Rattle.model.specs.Pages.{placeOf}
+use Rattle.model.specs.Access.{withImage, shown, taken, writeLimit, halfEnd, isBadAccess}
+use Rattle.model.specs.Refusals.{refuse, firstOf, noSuchLane, isBusy, isUnused, eventRefusals}
+use Rattle.model.specs.Step.{readAt, carried}
+use Rattle.model.specs.Outcome.{state}
+use Rattle.model.specs.declared.answer.Answer.the-variants.{BadAccess, Busy, NoSuchPlace}
+use Rattle.model.specs.declared.event.Call.{Call}
+use Rattle.model.specs.declared.event.Call.the-variants.{Write, Read, Work, Hardware, Condition, Sample}
+use Rattle.model.specs.declared.lane.Working.{Working}
+use Rattle.laws_sound.proofs.Sound.{seenOf, Sound}
+use Rattle.laws_sound.proofs.Steps.{not-refused}
+use Rattle.laws_whole.specs.Whole.{hidden, Alike, hiddenRead}
+use Rattle.laws_whole.proofs.Agree.{of-none, none-of}
+use Rattle.laws_whole.proofs.Sees.{activeOf}
+use Rattle.laws_sound.proofs.Stranger.{idle-passing}
+use Rattle.laws_whole.proofs.Pairs.{passed, passing-busy, veiled, Pair, Paired, same-active, same-lanes}
+use Rattle.laws_whole.proofs.Kept.{changed, waits-keeps, keeps-settled, keeps-sample, keeps-condition, keeps-hardware, keeps-cleared}
+use Rattle.laws_whole.proofs.Changes.{alike-condition, alike-cleared, alike-settled, alike-sampled, alike-moved, place-same, state-read}
+use Rattle.laws_sound.proofs.Quiet.{Well}
+use Rattle.laws_whole.proofs.Bytes.{bytes-pair}
+use Rattle.laws_whole.proofs.Working.{Carries, leaves-pair, work-carries}
+
+-- what is not hidden is not veiled
+pub hidden-veiled : (w : Working) (i b : ℕ) → hidden w i b ≡ false → veiled w i b ≡ false
+unfolding hidden
+hidden-veiled w i b h = of-none (passed w) i b (λ l hl p. none-of (λ l. isInProgress (stageAt w l)) l i b hl h (passing-busy (stageAt w l) p))
+
+-- lower 3.0 settled in both
+pub settled-pair : (s a : State) → Paired s a → Paired (withImage s (settled (s .image))) (withImage a (settled (a .image)))
+settled-pair s a Q = record {
+  working = Q .working;
+  pair = record {
+    size = keeps-settled (s .image) .size ∙ Q .pair .size;
+    alike = alike-settled (passed (s .working)) (s .image) (a .image) (Q .pair .alike);
+    waits = waits-keeps (a .image) _ (s .working) (keeps-settled (a .image)) (Q .pair .waits);
+  };
+}
+
+-- ---- an answer that is done
+lane-below : (l : ℕ) → noSuchLane l ≡ false → l < 8
+unfolding noSuchLane
+lane-below l e = ltb-true l 8 (not-false _ e)
+
+module _ (x y : Image) (w : Working) (S : Sound (seenOf (state x w))) (P : Pair x y w) where
+  -- ---- refusals
+  busy-same : (l : ℕ) → l < 8 → isBusy (state x w) l ≡ isBusy (state y w) l
+  unfolding isBusy either
+  busy-same l b = split (isInProgress (stageAt w l))
+      (λ p. rw (p, either))
+      (λ p. rw (same-lanes x y w S P l b (idle-passing (stageAt w l) p)))
+
+  idle-of : (l : ℕ) → isBusy (state x w) l ≡ false → isInProgress (stageAt w l) ≡ false
+  unfolding isBusy
+  idle-of l e = either-l _ _ e
+
+  unused-same : (l : ℕ) → l < 8 → isBusy (state x w) l ≡ false → isUnused (state x w) l ≡ isUnused (state y w) l
+  unfolding isUnused
+  unused-same l b e = rw (same-active x y w S P l b (idle-passing (stageAt w l) (idle-of l e)))
+
+  hardware-same : (room l : ℕ) → firstOf (eventRefusals room (state x w) (Hardware l)) ≡ firstOf (eventRefusals room (state y w) (Hardware l))
+  unfolding eventRefusals firstOf pick
+  hardware-same room l = split (noSuchLane l)
+      (λ n. rw (n, pick))
+      (λ n. let b : l < 8 = lane-below l n in split (isBusy (state x w) l)
+      (λ u. rw (n, ← (busy-same l b), u, pick))
+      (λ u. rw (n, ← (busy-same l b), u, unused-same l b u)))
+
+  pub refusals-same : (room : ℕ) (c : Call) → firstOf (eventRefusals room (state x w) c) ≡ firstOf (eventRefusals room (state y w) c)
+  unfolding eventRefusals
+  refusals-same room (Write address count) = refl
+  refusals-same room (Read address count) = refl
+  refusals-same room (Work l) = refl
+  refusals-same room (Hardware l) = hardware-same room l
+  refusals-same room (Condition flag mask) = refl
+  refusals-same room (Sample l p) = refl
+
+  -- ---- reads
+  shown-alike : (i b : ℕ) → veiled w i b ≡ false → field (shown x i) b 1 ≡ field (shown y i) b 1
+  unfolding shown pick digit
+  shown-alike i b h = split (either (eqb i applyDPInit) (eqb i applyImmediate))
+      (λ e. rw (e, pick))
+      (λ e. rw (e, pick) (P .alike .bits i b h))
+
+  taken-alike : (i n : ℕ) → Alike (λ k b. hidden w (i + k) b) (taken x i n) (taken y i n)
+  unfolding taken digit
+  taken-alike i n = record {
+    size = length-tab n _ ∙ sym (length-tab n _);
+    bits = λ k b h. elim (decLt k n) [
+      | yes l ↦ rw (tab-at n (λ k. shown x (i + k)) k 0 l, tab-at n (λ k. shown y (i + k)) k 0 l) (shown-alike (i + k) b (hidden-veiled w (i + k) b h))
+      | no l ↦ rw (tab-past n (λ k. shown x (i + k)) k 0 (omega arith), tab-past n (λ k. shown y (i + k)) k 0 (omega arith))
+    ];
+  }
+
+  read-carries : (address count : ℕ) → Carries (hiddenRead (state x w) (Read address count)) (readAt (state x w) (placeOf x address) count) (readAt (state y w) (placeOf y address) count)
+  unfolding readAt hiddenRead
+  read-carries address count = rw (place-same (passed w) x y (P .alike) address) (record {
+    states = changed x y _ _ w P (keeps-cleared x _ count) (keeps-cleared y _ count) (alike-cleared (veiled w) _ count x y (P .alike));
+    mask = refl;
+    bytes = taken-alike (placeOf x address) count;
+  })
+
+  -- ---- hardware
+  hardware-alike : (l : ℕ) → l < 8 → isInProgress (stageAt w l) ≡ false → Alike (veiled w) (hardwareMoved x l) (hardwareMoved y l)
+  unfolding hardwareMoved
+  hardware-alike l b f = rw (← (same-lanes x y w S P l b (idle-passing (stageAt w l) f)), state-read (passed w) x y (P .alike) l b)
+      (alike-moved (passed w) x y (P .alike) (pathOf (activeOf x) l) (stateOf (get x (stateAt l))))
+
+-- an access that is not refused ends at address 255 or before
+half-end : (address : ℕ) → halfEnd address ≤ 256
+unfolding halfEnd pick
+half-end address = split (ltb address 128) (λ e. rw (e, pick) (omega arith)) (λ e. rw (e, pick) (omega arith))
+
+write-fits : (address count : ℕ) (bytes : List ℕ) → isBadAccess writeLimit address count ≡ false → address + length (take count bytes) ≤ 256
+unfolding isBadAccess
+write-fits address count bytes e =
+    let h : address + count ≤ halfEnd address = ltb-false _ _ (either-r _ _ (either-r _ _ e)) in
+    omega (arith, length-take count bytes, half-end address)
+
+-- ---- what is carried out
+module _ (x y : Image) (w : Working) (two : ℕ) (T : Well two (state x w)) (P : Pair x y w) where
+  pub carried-pair : (room : ℕ) (bytes : List ℕ) (c : Call) → isDone (firstOf (eventRefusals room (state x w) c)) ≡ true
+      → Carries (hiddenRead (state x w) c) (carried early (state x w) bytes c) (carried late (state y w) bytes c)
+  unfolding carried eventRefusals isDone
+  carried-pair room bytes (Write address count) d =
+      let e = not-refused (refuse BadAccess (isBadAccess writeLimit address count)) [] refl d .0 in
+      leaves-pair _ (bytes-pair (take count bytes) address x y w two T P (write-fits address count bytes e))
+  carried-pair room bytes (Read address count) d = read-carries x y w (T .sound) P address count
+  carried-pair room bytes (Work l) d =
+      work-carries x y w (T .sound) P _ l (lane-below l (not-refused (refuse NoSuchPlace (noSuchLane l)) _ refl d .0))
+  carried-pair room bytes (Hardware l) d =
+      let a = not-refused (refuse NoSuchPlace (noSuchLane l)) _ refl d in
+      let b : l < 8 = lane-below l (a .0) in
+      let f = idle-of x y w (T .sound) P l (not-refused (refuse Busy (isBusy (state x w) l)) _ refl (a .1) .0) in
+      leaves-pair _ (changed x y _ _ w P (keeps-hardware l x) (keeps-hardware l y) (hardware-alike x y w (T .sound) P l b f))
+  carried-pair room bytes (Condition flag mask) d =
+      let e : isConditionFlag flag ≡ true = not-false _ (not-refused (refuse NoSuchPlace (not (isConditionFlag flag))) _ refl d .0) in
+      leaves-pair _ (changed x y _ _ w P (keeps-condition flag mask x e) (keeps-condition flag mask y e) (alike-condition (veiled w) flag mask x y (P .alike)))
+  carried-pair room bytes (Sample l p) d =
+      let b : l < 8 = lane-below l (not-refused (refuse NoSuchPlace (noSuchLane l)) _ refl d .0) in
+      leaves-pair _ (changed x y _ _ w P (keeps-sample l p x b) (keeps-sample l p y b) (alike-sampled (passed w) x y (P .alike) l p))

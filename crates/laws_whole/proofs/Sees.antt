@@ -1,0 +1,33 @@
+-- The view of two images that hold the same bytes beside the active settings. Assumes nothing.
+use mathlib.Core.Path.{_≡_}
+use mathlib.Core.List.{List}
+use Prim.Native.Nat.{ℕ, _<_}
+use native.Mathlib.Omega.{arith}
+use Rattle.bits.proofs.Loops.{tab-at}
+use Rattle.model.specs.Map.{Image, activeSet, stagedSet0}
+use Rattle.model.specs.Lanes.{noSettings}
+use Rattle.model.specs.View.{View, viewOf, of, settingsAt, settingsOf}
+use Rattle.model.specs.declared.lane.Settings.{Settings}
+use Rattle.laws_frames.proofs.Outside.{SameWithin}
+use Rattle.laws_frames.proofs.Registers.{settings-same, states-same, limits-same, applications-same}
+
+-- the active settings of all lanes
+abbrev pub activeOf : Image → List Settings
+activeOf x = settingsOf activeSet x
+
+pub active-at : (x : Image) (l : ℕ) → l < 8 → of (activeOf x) l ≡ settingsAt activeSet x l
+unfolding settingsOf
+active-at x l h = tab-at 8 (settingsAt activeSet x) l noSettings h
+
+-- a view with other active settings
+abbrev pub swap : View → List Settings → View
+swap v active = record { active = active; staged = v .staged; states = v .states; applications = v .applications; limits = v .limits }
+
+pub view-same : (x y : Image) → SameWithin 4 718 x y → viewOf stagedSet0 y ≡ swap (viewOf stagedSet0 x) (activeOf y)
+unfolding viewOf
+view-same x y h = rw (
+  settings-same stagedSet0 x y (λ i a b. h i (omega arith) (omega arith)),
+  states-same x y (λ i a b. h i (omega arith) (omega arith)),
+  limits-same x y (λ i a b. h i (omega arith) (omega arith)),
+  applications-same x y (λ i a b. h i (omega arith) (omega arith)),
+)

@@ -1,0 +1,2 @@
+-- What demand 3 says.
+pub mod Whole

@@ -1,0 +1,80 @@
+-- Demand 3: a run, and the comparison run in which each accepted group is carried out whole at its closing step, with the settings held at its
+-- trigger, are the same but for the active-setting bits of lanes in progress. The two differ in the mode of `step` alone: early and late.
+use Prim.Native.Nat.{ℕ, _+_, _<_}
+use mathlib.Core.Path.{_≡_}
+use mathlib.Core.Bool.{Bool, false}
+use mathlib.Core.List.{List}
+use lib.ListN.{length}
+use Rattle.bits.specs.Choice.{both}
+use Rattle.bits.specs.Loop.{anyBelow}
+use Rattle.bits.specs.Place.{digit, covers}
+use Rattle.model.specs.Map.{Image, laneCount, settingCount, settingAt, activeSet}
+use Rattle.model.specs.Lanes.{stageAt, isInProgress}
+use Rattle.model.specs.Triggers.{State}
+use Rattle.model.specs.Work.{early, late}
+use Rattle.model.specs.Pages.{placeOf}
+use Rattle.model.specs.Start.{started}
+use Rattle.model.specs.Step.{Out, step}
+use Rattle.model.specs.declared.event.Call.{Call}
+use Rattle.model.specs.declared.event.Call.the-variants.{Write, Read, Work, Hardware, Condition, Sample}
+use Rattle.model.specs.declared.event.Event.{Event}
+use Rattle.model.specs.declared.lane.Working.{Working}
+
+-- ---- the bits that may differ
+
+-- bit b of image byte i is an active-setting bit of lane l
+unfoldable pub isActiveBit : ℕ → ℕ → ℕ → Bool
+isActiveBit l i b = anyBelow settingCount (λ k. covers (settingAt activeSet k l) i b)
+
+-- .. of a lane that passes the test
+unfoldable pub activeBitOf : (ℕ → Bool) → ℕ → ℕ → Bool
+activeBitOf c i b = anyBelow laneCount (λ l. both (c l) (isActiveBit l i b))
+
+-- hidden: an active-setting bit of a lane in progress
+unfoldable pub hidden : Working → ℕ → ℕ → Bool
+hidden w = activeBitOf (λ l. isInProgress (stageAt w l))
+
+-- ---- the same but for them
+
+-- lists of bytes of equal length that agree in every bit that is not excepted
+pub record Alike (except : ℕ → ℕ → Bool) (xs ys : List ℕ) : Type 0 where
+  pub size : length xs ≡ length ys
+  pub bits : (i b : ℕ) → except i b ≡ false → digit xs i b ≡ digit ys i b
+
+-- no lane is in progress
+abbrev pub NoneInProgress : Working → Type 0
+NoneInProgress w = (l : ℕ) → l < laneCount → isInProgress (stageAt w l) ≡ false
+
+-- two states: one working state, images alike but for hidden bits, and equal whenever no lane is in progress
+pub record SameState (s a : State) : Type 0 where
+  pub working : s .working ≡ a .working
+  pub image : Alike (hidden (s .working)) (s .image) (a .image)
+  pub quiet : NoneInProgress (s .working) → s .image ≡ a .image
+
+-- the address that an event reads from; 0 where it reads nothing
+abbrev pub readAddress : Call → ℕ
+readAddress (Write address count) = 0
+readAddress (Read address count) = address
+readAddress (Work l) = 0
+readAddress (Hardware l) = 0
+readAddress (Condition flag mask) = 0
+readAddress (Sample l p) = 0
+
+-- bit b of the k-th byte that the event reads in a state is hidden there
+unfoldable pub hiddenRead : State → Call → ℕ → ℕ → Bool
+hiddenRead s c k b = hidden (s .working) (placeOf (s .image) (readAddress c) + k) b
+
+-- two steps on an event, the first from state s: one answer, one commission mask, bytes read alike but for bits hidden as they are read, and
+-- the states after it the same in the sense above
+pub record SameStep (s : State) (c : Call) (o p : Out) : Type 0 where
+  pub answer : o .answer ≡ p .answer
+  pub mask : o .mask ≡ p .mask
+  pub bytes : Alike (hiddenRead s c) (o .bytes) (p .bytes)
+  pub state : SameState (o .state) (p .state)
+
+-- ---- where the two runs get to
+
+-- the states that they reach from one start by the same events, each read lent a buffer with any room
+pub data Reached : State → State → Type 0 where
+  begun : (x : Image) → Reached (started x) (started x)
+  then : {s a : State} → Reached s a → (room : ℕ) (e : Event) → Reached (step early room s e .state) (step late room a e .state)

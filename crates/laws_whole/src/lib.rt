@@ -1,0 +1,1 @@
+// Demand 3 as a theorem over the model: the statement is in specs/, the proof in proofs/. No code.
