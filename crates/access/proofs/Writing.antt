@@ -1,0 +1,52 @@
+-- A write, byte by byte. Assumes nothing.
+use mathlib.Core.Path.{_≡_, refl, sym, ap}
+use mathlib.Core.Bool.{Bool, true, false}
+use mathlib.Core.List.{List}
+use Prim.Native.Nat.{ℕ, _+_, _-_, _≤_, _<_}
+use native.Mathlib.Nat.{add-zero, add-suc}
+use native.Mathlib.Numerals.{add-one}
+use native.Mathlib.Omega.{arith}
+use lib.ListN.{length, getD, set, drop}
+use lib.Seq.{drop-cons, drop-length}
+use borrow.Rule.Slice.PartMut.{set-mid-at, mid-len, midOf, putMid}
+use Rattle.bits.specs.Choice.{pick}
+use Rattle.model.specs.Map.{Image}
+use Rattle.model.specs.Triggers.{State}
+use Rattle.model.specs.Access.{withImage, byteWritten, bytesWritten}
+use Rattle.model.specs.Outcome.{state}
+use Rattle.model.specs.declared.lane.Working.{Working}
+use Rattle.triggers.specs.Marks.{Leaves}
+
+-- a byte set in a part of n bytes that starts at a is a byte of the whole
+pub part-set : (xs ys : List ℕ) (a n j v : ℕ) → a + n ≤ length xs → j < n
+    → ys ≡ set (midOf a ((a + n) - a) xs) j v → putMid a ((a + n) - a) xs ys ≡ set xs (a + j) v
+part-set xs ys a n j v l h e =
+    let m : length (midOf a ((a + n) - a) xs) ≡ (a + n) - a = mid-len a (a + n) xs l in
+    rw e (set-mid-at a ((a + n) - a) j xs v (omega arith))
+
+-- an image stored into where the test holds, and the state with it
+pub stored-leaves : (b : Bool) (s : State) (y im : Image) → im ≡ pick b y (s .image) → Leaves (pick b (withImage s y) s) im (s .working)
+unfolding pick
+stored-leaves true s y im e = record { registers = e; records = refl }
+stored-leaves false s y im e = record { registers = e; records = refl }
+
+-- what is left, as one state
+pub left-state : {s : State} {im : Image} {w : Working} → Leaves s im w → state im w ≡ s
+left-state r = λ i. record { image = r .registers i; working = r .records i }
+
+pub state-left : {s : State} {im : Image} {w : Working} → s ≡ state im w → Leaves s im w
+state-left e = record { registers = sym (ap (λ t. t .image) e); records = sym (ap (λ t. t .working) e) }
+
+-- a turn of the loop: the bytes from i on are still to be written, to the state s
+module _ (address : ℕ) (bytes : List ℕ) where
+  pub write-begin : (s : State) → bytesWritten address bytes s ≡ bytesWritten (address + 0) (drop 0 bytes) s
+  write-begin s = rw add-zero
+
+  pub write-turn : (i : ℕ) (s t : State) → i < length bytes → t ≡ byteWritten (address + i) (getD bytes i 0) s
+      → bytesWritten (address + i) (drop i bytes) s ≡ bytesWritten (address + (i + 1)) (drop (i + 1) bytes) t
+  unfolding bytesWritten
+  write-turn i s t l e = rw (drop-cons bytes i 0 l, add-one, add-suc, e)
+
+  pub write-end : (s : State) → bytesWritten (address + length bytes) (drop (length bytes) bytes) s ≡ s
+  unfolding bytesWritten
+  write-end s = rw (drop-length bytes)

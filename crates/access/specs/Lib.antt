@@ -1,0 +1,2 @@
+-- What a read leaves, read by name.
+pub mod Left

@@ -1,0 +1,2 @@
+-- What the crate's proofs cite.
+pub mod Laws

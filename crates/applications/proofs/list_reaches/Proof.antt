@@ -1,0 +1,58 @@
+-- `applications::list_reaches` meets its contract. Assumes nothing.
+use borrow.Author.Needs.{needs}
+use native.Mathlib.Omega.{arith}
+use mathlib.Core.Path.{_≡_}
+use Prim.Native.Nat.{_≤_, _-_}
+use Rattle.model.specs.Applications.{listReaches}
+use Rattle.applications.proofs.Laws.{reaches-begin, reaches-turn}
+use Rattle.applications.proofs.list_reaches.Statement.{statement}
+use Rattle.applications.proofs.list_reaches.Tie as tie
+
+abbrev Inv-loop : tie.InvT-loop
+Inv-loop image app reaches₀ before₀ reaches before = (before ≤ app) × (reaches ≡ listReaches image before)
+
+abbrev μ-loop : tie.MeasureT-loop
+μ-loop image app reaches₀ before₀ reaches before = app - before
+
+loop-holds : tie.Need-loop-holds Inv-loop μ-loop
+loop-holds c = (search needs, reaches-begin _)
+
+cast-first : tie.Need-cast-first Inv-loop μ-loop
+cast-first c = search needs
+
+mul-first : tie.Need-mul-first Inv-loop μ-loop
+mul-first c = search needs
+
+add-first : tie.Need-add-first Inv-loop μ-loop
+add-first c = search needs
+
+shared-slice-read-first : tie.Need-shared-slice-read-first Inv-loop μ-loop
+shared-slice-read-first c = search needs
+
+add-before : tie.Need-add-before Inv-loop μ-loop
+add-before c = search needs
+
+loop-less : tie.Need-loop-less Inv-loop μ-loop
+loop-less c = search needs
+
+loop-again : tie.Need-loop-again Inv-loop μ-loop
+loop-again c = (search needs, reaches-turn _ _ _ (c .before .before .loop .inv .1))
+
+returns : tie.Need-returns Inv-loop μ-loop
+returns c = let e : c .before .loop .before ≡ c .before .before .args .app = omega arith in rw e at (c .before .loop .inv .1)
+
+pub list-reaches-spec : {M : Type 1} → statement M
+list-reaches-spec =
+    tie.close
+    (tie.spec
+    Inv-loop
+    μ-loop
+    loop-holds
+    cast-first
+    mul-first
+    add-first
+    shared-slice-read-first
+    add-before
+    loop-less
+    loop-again
+    returns)

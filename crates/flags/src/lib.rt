@@ -1,0 +1,137 @@
+// Flags: conditions, samples of received power, and the interrupt bit.
+ghost use mathlib.Core.Path.{_≡_};
+ghost use Prim.Native.Nat.{_+_, _≤_, _<_};
+ghost use lib.ListN.{length};
+ghost use Rattle.bits.specs.Loop.{anyBelow};
+ghost use Rattle.model.specs.Flags.{isConditionFlag, conditionSet, power, raised, sampled, isUnmasked, interrupts, settled};
+use bits::Place;
+
+// Page 02h: the limits of received power, two bytes each, in 0.1 µW.
+const HIGH_ALARM: usize = map::PAGE_02 + (192 - 128);
+
+const LOW_ALARM: usize = map::PAGE_02 + (194 - 128);
+
+const HIGH_WARNING: usize = map::PAGE_02 + (196 - 128);
+
+const LOW_WARNING: usize = map::PAGE_02 + (198 - 128);
+
+// Page 11h: the flags that a sample may raise, and where samples are stored.
+const HIGH_ALARM_FLAG: u8 = 149;
+
+const LOW_ALARM_FLAG: u8 = 150;
+
+const HIGH_WARNING_FLAG: u8 = 151;
+
+const LOW_WARNING_FLAG: u8 = 152;
+
+const RECEIVED_POWER: usize = map::PAGE_11 + (186 - 128);
+
+// The twenty flag bytes 11h:134-153, and their masks 10h:213-232.
+const FLAG_BYTES: usize = map::PAGE_11 + (134 - 128);
+
+const FLAG_MASKS: usize = map::PAGE_10 + (213 - 128);
+
+const FLAG_BYTE_COUNT: usize = 20;
+
+// Whether a condition may name a flag byte.
+pub fn is_condition_flag(flag: u8) -> bool
+    ensures { λ r. ⌜ r ≡ isConditionFlag flag ⌝ }
+{
+    let at = flag as usize;
+    map::within(at, 135, 138) | map::within(at, 147, 148)
+}
+
+// A condition sets the mask's bits of its flag byte.
+pub fn condition(image: &mut [u8], flag: u8, mask: u8)
+    requires { ⌜ (length (now image) ≡ 768) × (128 ≤ flag) ⌝ }
+    ensures { λ _. ⌜ now (image .exit) ≡ conditionSet flag mask (now (image .entry)) ⌝ }
+{
+    bits::put_each(image, map::on(map::PAGE_11, flag), 1, mask, 1)
+}
+
+// A lane's bit of a flag byte, set where the test holds.
+pub fn raise(image: &mut [u8], test: bool, flag: u8, lane: u8)
+    requires { ⌜ (length (now image) ≡ 768) × (128 ≤ flag) × (lane < 8) ⌝ }
+    ensures { λ _. ⌜ now (image .exit) ≡ raised test flag lane (now (image .entry)) ⌝ }
+{
+    if test {
+        bits::put_lane_bit(image, map::on(map::PAGE_11, flag), lane, 1);
+    }
+}
+
+// A limit of received power: two bytes, the high one first.
+pub fn limit(image: &[u8], at: usize) -> u16
+    requires { ⌜ at + 2 ≤ length (now image) ⌝ }
+    ensures { λ r. ⌜ r ≡ power (now (image .entry)) at ⌝ }
+{
+    bits::word2(image, at)
+}
+
+// A sample of received power: stored, and compared with the four limits.
+pub fn sample(image: &mut [u8], lane: u8, power: u16)
+    requires { ⌜ (length (now image) ≡ 768) × (lane < 8) ⌝ }
+    ensures { λ _. ⌜ now (image .exit) ≡ sampled lane power (now (image .entry)) ⌝ }
+{
+    let high_alarm = limit(image, HIGH_ALARM);
+    let low_alarm = limit(image, LOW_ALARM);
+    let high_warning = limit(image, HIGH_WARNING);
+    let low_warning = limit(image, LOW_WARNING);
+    bits::put_word2(image, RECEIVED_POWER + 2 * (lane as usize), power);
+    raise(image, high_alarm < power, HIGH_ALARM_FLAG, lane);
+    raise(image, power < low_alarm, LOW_ALARM_FLAG, lane);
+    raise(image, high_warning < power, HIGH_WARNING_FLAG, lane);
+    raise(image, power < low_warning, LOW_WARNING_FLAG, lane);
+}
+
+// Whether bit b of flag byte k is 1 and its mask bit 0.
+pub fn is_unmasked(image: &[u8], k: usize, b: u8) -> bool
+    requires { ⌜ (length (now image) ≡ 768) × (k < 20) × (b < 8) ⌝ }
+    ensures { λ r. ⌜ r ≡ isUnmasked (now (image .entry)) k b ⌝ }
+{
+    let flag = bits::take_field(image[FLAG_BYTES + k], b, 1);
+    let mask = bits::take_field(image[FLAG_MASKS + k], b, 1);
+    (flag == 1) & (mask == 0)
+}
+
+// Whether flag byte k has such a bit.
+pub fn has_unmasked(image: &[u8], k: usize) -> bool
+    requires { ⌜ (length (now image) ≡ 768) × (k < 20) ⌝ }
+    ensures { λ r. ⌜ r ≡ anyBelow 8 (λ b. isUnmasked (now (image .entry)) k b) ⌝ }
+{
+    for b in 0..8u8 {
+        if is_unmasked(image, k, b) {
+            return true;
+        }
+    }
+    false
+}
+
+// Whether the interrupt is due.
+pub fn interrupts(image: &[u8]) -> bool
+    requires { ⌜ length (now image) ≡ 768 ⌝ }
+    ensures { λ r. ⌜ r ≡ interrupts (now (image .entry)) ⌝ }
+{
+    for k in 0..FLAG_BYTE_COUNT {
+        if has_unmasked(image, k) {
+            return true;
+        }
+    }
+    false
+}
+
+// Lower 3.0: 0 exactly while the interrupt is due.
+pub fn settle(image: &mut [u8])
+    requires { ⌜ length (now image) ≡ 768 ⌝ }
+    ensures { λ _. ⌜ now (image .exit) ≡ settled (now (image .entry)) ⌝ }
+{
+    let quiet = !interrupts(image);
+    bits::put(
+        image,
+        Place {
+            byte: map::MODULE_STATE,
+            shift: 0,
+            width: 1,
+        },
+        quiet as u8,
+    )
+}

@@ -1,0 +1,4 @@
+-- The laws of answers: the refusal list, what a refusal leaves, and that a contract admits one outcome.
+pub mod Answered
+pub mod Unchanged
+pub mod Unique

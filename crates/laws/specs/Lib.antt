@@ -1,0 +1,3 @@
+-- The vocabulary of the laws of answers.
+pub mod Asked
+pub mod Left

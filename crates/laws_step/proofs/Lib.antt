@@ -1,0 +1,19 @@
+-- What each event changes, said of the step.
+pub mod Frames
+pub mod Settling
+pub mod Stepped
+pub mod Places
+pub mod Records
+pub mod Reading
+pub mod Triggering
+pub mod Commission
+pub mod Held
+pub mod Working
+pub mod Bytes
+pub mod Middle
+pub mod Writing
+pub mod Paging
+pub mod Moving
+pub mod Sensing
+pub mod Reserving
+pub mod Running

@@ -1,0 +1,111 @@
+-- What holds after every event: lower 3.0 follows the flags, and in a run from start 11h:215-216 are 0. Assumes nothing.
+use mathlib.Core.Path.{_≡_, refl, sym, ap, _∙_}
+use mathlib.Core.Bool.{true, false, not}
+use mathlib.Core.List.{List, [], _∷_}
+use mathlib.Core.Logic.{_↔_, inl, inr}
+use Prim.Native.Nat.{ℕ, _+_, _<_}
+use native.Mathlib.Omega.{arith}
+use lib.Dec.{eqb}
+use lib.ListN.{length, getD}
+use borrow.Author.Tests.{eqb-true, not-true}
+use Rattle.bits.specs.Choice.{pick, both, either}
+use Rattle.bits.specs.Loop.{allBelow}
+use Rattle.bits.specs.Number.{field}
+use Rattle.bits.specs.Place.{get, digit}
+use Rattle.bits.proofs.Tests.{split, clash, both-l, both-r, pick-false}
+use Rattle.bits.proofs.Number.{field-past}
+use Rattle.bits.proofs.Loops.{all-at, tab-at, length-tab, none-any}
+use Rattle.model.specs.Map.{Image, interruptBit, kept, inRanges, flagBytes}
+use Rattle.model.specs.Answers.{isDone}
+use Rattle.model.specs.Triggers.{State}
+use Rattle.model.specs.Work.{early}
+use Rattle.model.specs.Flags.{isUnmasked, interrupts, settled}
+use Rattle.model.specs.Start.{isStateByte, startValue, startByte, started}
+use Rattle.model.specs.Step.{step, done, carried, ending}
+use Rattle.model.specs.declared.answer.Answer.the-variants.{Done}
+use Rattle.model.specs.declared.event.Event.{Event}
+use Rattle.laws.proofs.Unchanged.{done-is}
+use Rattle.laws_step.specs.Told.{UnmaskedFlag, Reserved, Settled}
+use Rattle.laws_step.proofs.Settling.{settled-changes, settled-if, settled-bit, settled-twice}
+use Rattle.laws_step.proofs.Stepped.{done-step, refused-step}
+use Rattle.laws_step.proofs.Reserving.{step-kept}
+
+-- ---- one event
+
+module _ (room : ℕ) (s : State) (e : Event) where
+  -- after every event that is done, lower 3.0 is 0 exactly when an unmasked flag bit is 1
+  pub interrupt-exactly : length (s .image) ≡ 768 → step early room s e .answer ≡ Done
+      → (get (step early room s e .state .image) interruptBit ≡ 0) ↔ UnmaskedFlag (step early room s e .state .image)
+  unfolding done
+  interrupt-exactly size d =
+      let y = carried early s (e .bytes) (e .call) .state .image in
+      let k : length (settled y) ≡ 768 = (rw (done-step room s e d) at (step-kept room s e .size)) ∙ size in
+      rw (done-step room s e d) (settled-bit y (omega (arith, settled-changes y .size)))
+
+  -- an event that is done settles lower 3.0, and one that is refused leaves it settled
+  pub step-settled : Settled (s .image) → Settled (step early room s e .state .image)
+  unfolding done isDone
+  step-settled k = split (isDone (step early room s e .answer))
+      (λ t. rw (done-step room s e (done-is _ t)) (settled-twice _))
+      (λ t. rw (refused-step room s e (λ d. clash (ap isDone d) t)) k)
+
+-- ---- a run from start
+
+module _ (x : Image) where
+  start-byte : (i : ℕ) → i < 768 → getD (started x .image) i 0 ≡ startByte x i
+  unfolding started
+  start-byte i h = tab-at 768 (startByte x) i 0 h
+
+  -- start clears every flag byte
+  flags-cleared : allBelow 20 (λ k. both (not (kept (flagBytes + k))) (eqb (startValue (flagBytes + k)) 0)) ≡ true
+  unfolding allBelow both either kept inRanges startValue isStateByte pick
+  flags-cleared = refl
+
+  start-flag : (k : ℕ) → k < 20 → getD (started x .image) (flagBytes + k) 0 ≡ 0
+  unfolding startByte
+  start-flag k h = let t = all-at 20 _ flags-cleared k h in
+      start-byte (flagBytes + k) (omega arith) ∙ pick-false _ _ (not-true _ (both-l _ _ t)) ∙ eqb-true _ _ (both-r _ _ t)
+
+  start-quiet : interrupts (started x .image) ≡ false
+  unfolding interrupts isUnmasked digit both
+  start-quiet = none-any 20 _ (λ k h. none-any 8 _ (λ b c. rw (start-flag k h, field-past 0 0 b 1 (omega arith) (omega arith), both)))
+
+  start-interrupt : get (started x .image) interruptBit ≡ 1
+  unfolding get field startByte startValue kept inRanges both either pick
+  start-interrupt = rw (start-byte 3 (omega arith))
+
+  start-settled : Settled (started x .image)
+  start-settled = settled-if (started x .image) (start-interrupt ∙ sym (pick-false 0 1 start-quiet))
+
+  start-reserved : (i : ℕ) → Reserved i → getD (started x .image) i 0 ≡ 0
+  unfolding startByte startValue kept inRanges isStateByte both either pick
+  start-reserved i (inl e) = rw e (start-byte 727 (omega arith))
+  start-reserved i (inr e) = rw e (start-byte 728 (omega arith))
+
+  start-size : length (started x .image) ≡ 768
+  unfolding started
+  start-size = length-tab 768 (startByte x)
+
+-- what holds at a state and is kept by every event holds after every list of events
+along : (P : State → Type 0) (room : ℕ) → ((s : State) (e : Event) → P s → P (step early room s e .state))
+    → (s : State) (es : List Event) → P s → P (ending early room s es)
+unfolding ending
+along P room h s [] p = p
+along P room h s (e ∷ es) p = along P room h (step early room s e .state) es (h s e p)
+
+module _ (x : Image) (room : ℕ) (es : List Event) where
+  -- the image keeps its 768 bytes
+  pub run-size : length (ending early room (started x) es .image) ≡ 768
+  run-size = along (λ s. length (s .image) ≡ 768) room (λ s e p. step-kept room s e .size ∙ p) (started x) es (start-size x)
+
+  -- 11h:215-216 are 0
+  pub run-reserved : (i : ℕ) → Reserved i → getD (ending early room (started x) es .image) i 0 ≡ 0
+  run-reserved = along (λ s. (i : ℕ) → Reserved i → getD (s .image) i 0 ≡ 0) room
+      (λ s e p i r. step-kept room s e .reserved i r ∙ p i r) (started x) es (start-reserved x)
+
+  -- lower 3.0 is settled, and so 0 exactly when an unmasked flag bit is 1
+  pub run-settled : Settled (ending early room (started x) es .image)
+  run-settled = along (λ s. Settled (s .image)) room (λ s e p. step-settled room s e p) (started x) es (start-settled x)
+
+  pub run-interrupt : (get (ending early room (started x) es .image) interruptBit ≡ 0) ↔ UnmaskedFlag (ending early room (started x) es .image)
+  run-interrupt = rw run-settled at (settled-bit (ending early room (started x) es .image) (omega (arith, run-size)))

@@ -1,0 +1,60 @@
+-- A step that is done is the event carried out and lower 3.0 settled; one that is refused is nothing. Assumes nothing.
+use mathlib.Core.Path.{_≡_, refl, ap}
+use mathlib.Core.Bool.{Bool, true, false}
+use mathlib.Core.List.{List, _∷_}
+use Prim.Native.Nat.{ℕ, _<_}
+use borrow.Author.Tests.{lt-ltb}
+use Rattle.bits.specs.Choice.{pick}
+use Rattle.bits.proofs.Tests.{split, clash}
+use Rattle.model.specs.Answers.{isDone}
+use Rattle.model.specs.Triggers.{State}
+use Rattle.model.specs.Lanes.{stageAt, isInProgress}
+use Rattle.model.specs.Work.{early, workedBy, workedOn, workStep}
+use Rattle.model.specs.Refusals.{Refusal, refuse, firstOf, noSuchLane, eventRefusals}
+use Rattle.model.specs.Step.{step, carried, done, refused, answered}
+use Rattle.model.specs.declared.answer.Answer.{Answer}
+use Rattle.model.specs.declared.answer.Answer.the-variants.{Done}
+use Rattle.model.specs.declared.event.Call.the-variants.{Work}
+use Rattle.model.specs.declared.event.Event.{Event}
+use Rattle.model.specs.declared.lane.Progress.{Progress}
+use Rattle.model.specs.declared.lane.Stage.the-variants.{InProgress}
+use Rattle.laws.proofs.Unchanged.{done-is}
+use Rattle.laws_step.specs.Changes.{Bits, ChangesOnly, orIn, interruptSet}
+use Rattle.laws_step.specs.Told.{stepOn}
+use Rattle.laws_step.proofs.Frames.{keeps-then, keeps-left, keeps-right}
+use Rattle.laws_step.proofs.Settling.{settled-changes}
+
+-- where nothing is refused, each condition is false
+pub not-refused : (a : Answer) (c : Bool) (rs : List Refusal) → isDone a ≡ false → firstOf (refuse a c ∷ rs) ≡ Done → (c ≡ false) × (firstOf rs ≡ Done)
+unfolding firstOf pick isDone
+not-refused a true rs n e = absurd (clash (ap isDone e) n)
+not-refused a false rs n e = (refl, e)
+
+module _ (room : ℕ) (s : State) (e : Event) where
+  -- the refusals that a step asks for are all false when it is done
+  pub none-refused : step early room s e .answer ≡ Done → firstOf (eventRefusals room s (e .call)) ≡ Done
+  unfolding step answered done refused pick
+  none-refused d = split (isDone (firstOf (eventRefusals room s (e .call)))) (λ i. done-is _ i) (λ i. rw (i, pick) at d)
+
+  pub done-step : step early room s e .answer ≡ Done → step early room s e ≡ done Done (carried early s (e .bytes) (e .call))
+  unfolding step answered done isDone pick
+  done-step d = rw (none-refused d, isDone, pick)
+
+  pub refused-step : (step early room s e .answer ≡ Done → ⊥) → step early room s e .state ≡ s
+  unfolding step answered done refused pick
+  refused-step n = split (isDone (firstOf (eventRefusals room s (e .call))))
+      (λ i. absurd (n (rw (i, pick) (done-is _ i))))
+      (λ i. rw (i, pick))
+
+  -- so a done step changes what the event changes, and lower 3.0
+  pub step-changes : (may : Bits) → step early room s e .answer ≡ Done
+      → ChangesOnly may (s .image) (carried early s (e .bytes) (e .call) .state .image)
+      → ChangesOnly (orIn interruptSet may) (s .image) (step early room s e .state .image)
+  unfolding done
+  step-changes may d k = rw (done-step d) (keeps-then (keeps-right interruptSet k) (keeps-left may (settled-changes _)))
+
+-- a lane in progress is worked on
+pub work-done : (room : ℕ) (s : State) (bytes : List ℕ) (l : ℕ) (p : Progress) → l < 8 → stageAt (s .working) l ≡ InProgress p
+    → stepOn room s (Work l) bytes ≡ done Done (workedBy (p .verdict) early s (p .group) (p .trigger))
+unfolding step answered eventRefusals firstOf noSuchLane isInProgress isDone carried workStep workedOn pick
+work-done room s bytes l p h i = rw (lt-ltb l 8 h, i, isInProgress, pick, workedOn)

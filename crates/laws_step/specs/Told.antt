@@ -1,0 +1,169 @@
+-- What is told of single events: the words of the theorems over the step.
+use mathlib.Core.Path.{_≡_}
+use mathlib.Core.Bool.{Bool, true, false, not}
+use mathlib.Core.List.{List, []}
+use mathlib.Core.Logic.{_⊎_}
+use Prim.Native.Nat.{ℕ, zero, suc, _+_, _*_, _≤_, _<_}
+use lib.Dec.{eqb, leb, ltb}
+use lib.ListN.{length, getD}
+use Rattle.bits.specs.Choice.{pick, both, either}
+use Rattle.bits.specs.Place.{get, digit}
+use Rattle.bits.specs.Sets.{has, nextIn}
+use Rattle.model.specs.Map.{Image, page11, on, laneCount, activeSet, statusAt, stateAt, bankSelect, pageSelect, writable, clearing, flagBytes, flagMasks, flagByteCount, pendingAt, flagAt, stateChanged, receivedPower, highAlarm, lowAlarm, highWarning, lowWarning, highAlarmFlag, lowAlarmFlag, highWarningFlag, lowWarningFlag}
+use Rattle.model.specs.PathStates.{codeOf, resting}
+use Rattle.model.specs.Lanes.{stageAt, isInProgress, heldIn, withVerdict}
+use Rattle.model.specs.View.{viewOf, settingsAt}
+use Rattle.model.specs.Groups.{firstIn}
+use Rattle.model.specs.Triggers.{State, isMarked, isIgnored}
+use Rattle.model.specs.Work.{early, isRelease, written}
+use Rattle.model.specs.Hardware.{isState, initialized}
+use Rattle.model.specs.Flags.{power, settled}
+use Rattle.model.specs.Pages.{placeOf}
+use Rattle.model.specs.Step.{Out, step}
+use Rattle.model.specs.Cases.{event}
+use Rattle.model.specs.declared.event.Call.{Call}
+use Rattle.model.specs.declared.event.Call.the-variants.{Work}
+use Rattle.model.specs.declared.lane.Trigger.{Trigger}
+use Rattle.model.specs.declared.lane.Trigger.the-variants.{DpInit, Immediate}
+use Rattle.model.specs.declared.lane.Verdict.the-variants.{Pass}
+use Rattle.model.specs.declared.lane.Progress.{Progress}
+use Rattle.model.specs.declared.lane.Stage.the-variants.{Idle, InProgress}
+use Rattle.model.specs.declared.lane.Working.{Working}
+use Rattle.model.specs.declared.path.PathState.{PathState}
+use Rattle.model.specs.declared.path.PathState.the-variants.{Activated, Initialized}
+use Rattle.laws_step.specs.Changes.{Bits, orIn, inBytes, statusSet, stateSet, flagSet, pendingSet}
+
+-- one event on a state; room is the length of the buffer that a read is lent, bytes are those that a write carries
+abbrev pub stepOn : ℕ → State → Call → List ℕ → Out
+stepOn room s c bytes = step early room s (event c bytes)
+
+-- a flag bit in 11h:134-153 is 1 and its mask bit, 79 addresses higher on 10h, is 0
+pub record UnmaskedFlag (x : Image) : Type 0 where
+  pub byte : ℕ
+  pub bit : ℕ
+  pub isFlagByte : byte < flagByteCount
+  pub isBit : bit < 8
+  pub isSet : digit x (flagBytes + byte) bit ≡ 1
+  pub isUnmasked : digit x (flagMasks + byte) bit ≡ 0
+
+-- byte i of the image is one of from .. to - 1
+unfoldable pub amid : ℕ → ℕ → ℕ → Bool
+amid from to i = both (leb from i) (ltb i to)
+
+-- the bytes that a read of n bytes from an address clears: of lower 8-9 and 11h:134-153 those that it reads
+unfoldable pub clearedBy : Image → ℕ → ℕ → Bits
+clearedBy x address n = inBytes (λ i. both (clearing i) (amid (placeOf x address) (placeOf x address + n) i))
+
+-- lane l is marked by a trigger
+unfoldable pub marks : Trigger → ℕ → State → ℕ → ℕ → Bool
+marks t base s selected l = both (not (isIgnored t (s .image))) (isMarked (viewOf base (s .image)) (s .working) selected l)
+
+-- ---- writes
+
+-- lane l was idle and is in progress: a trigger has marked it
+unfoldable pub newlyMarked : Working → Working → ℕ → Bool
+newlyMarked before after l = both (not (isInProgress (stageAt before l))) (isInProgress (stageAt after l))
+
+-- the bytes that a write to the places from .. to - 1 may change: the writable ones among them, and 126 and 127 where 127 is among them
+unfoldable pub writtenBytes : ℕ → ℕ → ℕ → Bool
+writtenBytes from to i = either (both (writable i) (amid from to i)) (both (amid from to pageSelect) (either (eqb i bankSelect) (eqb i pageSelect)))
+
+-- .. and ConfigStatus of the lanes that it marks
+unfoldable pub writeSet : ℕ → ℕ → Working → Working → Bits
+writeSet from to before after = orIn (inBytes (writtenBytes from to)) (statusSet (newlyMarked before after))
+
+-- a page that a host may select: 00h, 01h or 02h, or 10h or 11h in bank 0
+unfoldable pub isSupported : ℕ → ℕ → Bool
+isSupported bank page = either (ltb page 3) (both (eqb bank 0) (either (eqb page 0x10) (eqb page 0x11)))
+
+-- the page rule for a byte v written to 127: a page that is supported is kept, and any other resets 126 and 127
+pub record PageRule (v : ℕ) (before after : Image) : Type 0 where
+  pub supported : isSupported (getD before bankSelect 0) v ≡ true → (getD after pageSelect 0 ≡ v) × (getD after bankSelect 0 ≡ getD before bankSelect 0)
+  pub otherwise : isSupported (getD before bankSelect 0) v ≡ false → (getD after pageSelect 0 ≡ 0) × (getD after bankSelect 0 ≡ 0)
+
+-- ---- work steps
+
+-- the state after a work step on a lane
+abbrev pub worked : ℕ → State → List ℕ → ℕ → State
+worked room s bytes l = stepOn room s (Work l) bytes .state
+
+-- .. and after k of them
+unfoldable pub workedTimes : ℕ → ℕ → State → ℕ → State
+workedTimes zero room s l = s
+workedTimes (suc k) room s l = workedTimes k room (worked room s [] l) l
+
+-- a group has closed with a status: its lanes show it and are idle, and every other lane keeps its record
+pub record Closed (g code : ℕ) (before after : State) : Type 0 where
+  pub status : (m : ℕ) → m < laneCount → has g m ≡ true → get (after .image) (statusAt m) ≡ code
+  pub idle : (m : ℕ) → m < laneCount → has g m ≡ true → stageAt (after .working) m ≡ Idle
+  pub others : (m : ℕ) → m < laneCount → has g m ≡ false → stageAt (after .working) m ≡ stageAt (before .working) m
+
+-- DPInitPending of a lane whose group closes: a release clears it, else ApplyDPInit sets it and ApplyImmediate leaves it
+unfoldable pub pendingThen : Bool → Trigger → ℕ → ℕ
+pendingThen true t before = 0
+pendingThen false DpInit before = 1
+pendingThen false Immediate before = before
+
+-- lane n, one of a group, was copied: its active settings are what copying writes of its held ones, the group's next lane is the following one of the group
+-- (the lane count where there is none), and every other lane keeps its record
+pub record CopiedLane (g n : ℕ) (before after : State) : Type 0 where
+  pub member : has g n ≡ true
+  pub settings : settingsAt activeSet (after .image) n ≡ written (heldIn (stageAt (before .working) n))
+  pub next : (m : ℕ) → m < laneCount → has g m ≡ true
+      → stageAt (after .working) m ≡ withVerdict (stageAt (before .working) m) (Pass (nextIn laneCount g (suc n)))
+  pub others : (m : ℕ) → m < laneCount → has g m ≡ false → stageAt (after .working) m ≡ stageAt (before .working) m
+
+-- a work step on the lane is the closing step of an ApplyImmediate that reaches the hardware: every lane of its group is copied, it is no release, and
+-- its state is DPInitialized or DPActivated
+pub record Commissions (s : State) (lane : ℕ) (p : Progress) : Type 0 where
+  pub next : ℕ
+  pub inProgress : stageAt (s .working) lane ≡ InProgress p
+  pub passes : p .verdict ≡ Pass next
+  pub allCopied : laneCount ≤ next
+  pub immediate : p .trigger ≡ Immediate
+  pub noRelease : isRelease (s .working) (p .group) ≡ false
+  pub reached : (get (s .image) (stateAt (firstIn (p .group))) ≡ codeOf Initialized) ⊎ (get (s .image) (stateAt (firstIn (p .group))) ≡ codeOf Activated)
+
+-- ---- events of the hardware
+
+-- what a hardware event on a path may change: DPState, DPStateChanged and DPInitPending of the path's lanes
+unfoldable pub pathSet : ℕ → Bits
+pathSet g = orIn (stateSet (has g)) (orIn (flagSet stateChanged (has g)) (pendingSet (has g)))
+
+-- the path g went from a state to the next: its lanes show it, entering a resting state sets their DPStateChanged flags, and DPInitialized reached from
+-- DPInit clears their DPInitPending bits; a path that stays changes nothing
+pub record PathMoved (g : ℕ) (from to : PathState) (before after : Image) : Type 0 where
+  pub states : (m : ℕ) → m < laneCount → has g m ≡ true → get after (stateAt m) ≡ pick (isState from to) (get before (stateAt m)) (codeOf to)
+  pub flags : (m : ℕ) → m < laneCount → has g m ≡ true
+      → get after (flagAt stateChanged m) ≡ pick (both (not (isState from to)) (resting to)) 1 (get before (flagAt stateChanged m))
+  pub pendings : (m : ℕ) → m < laneCount → has g m ≡ true
+      → get after (pendingAt m) ≡ pick (both (not (isState from to)) (initialized from to)) 0 (get before (pendingAt m))
+
+-- what a sample of lane l may change: its two bytes of received power and its four flags
+unfoldable pub sampleSet : ℕ → Bits
+sampleSet l =
+    orIn (inBytes (amid (receivedPower + 2 * l) (receivedPower + 2 * l + 2)))
+    (orIn (orIn (flagSet highAlarmFlag (eqb l)) (flagSet lowAlarmFlag (eqb l))) (orIn (flagSet highWarningFlag (eqb l)) (flagSet lowWarningFlag (eqb l))))
+
+-- a power of lane l was stored, and each of its flags is set if the power is past the limit, else left
+pub record PowerTold (l p : ℕ) (before after : Image) : Type 0 where
+  pub stored : power after (receivedPower + 2 * l) ≡ p
+  pub aboveAlarm : get after (flagAt highAlarmFlag l) ≡ pick (ltb (power before highAlarm) p) 1 (get before (flagAt highAlarmFlag l))
+  pub belowAlarm : get after (flagAt lowAlarmFlag l) ≡ pick (ltb p (power before lowAlarm)) 1 (get before (flagAt lowAlarmFlag l))
+  pub aboveWarning : get after (flagAt highWarningFlag l) ≡ pick (ltb (power before highWarning) p) 1 (get before (flagAt highWarningFlag l))
+  pub belowWarning : get after (flagAt lowWarningFlag l) ≡ pick (ltb p (power before lowWarning)) 1 (get before (flagAt lowWarningFlag l))
+
+-- ---- every event
+
+-- 11h:215-216, which stay 0
+abbrev pub Reserved : ℕ → Type 0
+Reserved i = (i ≡ on page11 215) ⊎ (i ≡ on page11 216)
+
+-- the length and 11h:215-216 are as they were
+pub record Kept (before after : Image) : Type 0 where
+  pub size : length after ≡ length before
+  pub reserved : (i : ℕ) → Reserved i → getD after i 0 ≡ getD before i 0
+
+-- lower 3.0 is as it should be: settling it changes nothing
+abbrev pub Settled : Image → Type 0
+Settled x = settled x ≡ x

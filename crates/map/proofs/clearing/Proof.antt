@@ -1,0 +1,19 @@
+-- `map::clearing` meets its contract. Assumes nothing.
+use Rattle.model.specs.Map.{clearing, inRanges}
+use Rattle.map.proofs.Ranges.{first-test, then-test, all-tests}
+use borrow.Author.Needs.{needs}
+use Rattle.map.proofs.clearing.Statement.{statement}
+use Rattle.map.proofs.clearing.Tie as tie
+
+within-requires : tie.Need-within-requires
+within-requires c κs = search needs
+
+on-page-requires : tie.Need-on-page-requires
+on-page-requires c κs = search needs
+
+returns : tie.Need-returns
+unfolding clearing inRanges
+returns c = all-tests (then-test (first-test (c .before .within .ensures)) (c .on-page .ensures))
+
+pub clearing-spec : {M : Type 1} → statement M
+clearing-spec = tie.close (tie.spec within-requires on-page-requires returns)

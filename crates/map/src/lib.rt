@@ -1,0 +1,82 @@
+// The register map in code: where each page starts, and which bytes of the image keep a write, are cleared by a read, or are kept by start.
+ghost use mathlib.Core.Path.{_≡_};
+ghost use Prim.Native.Nat.{_≤_};
+ghost use lib.Dec.{leb};
+ghost use Rattle.bits.specs.Choice.{both};
+ghost use Rattle.model.specs.Map.{on, writable, clearing, kept};
+
+// The image: lower memory, then five pages; a page's addresses start at UPPER.
+pub const IMAGE_LENGTH: usize = 768;
+
+pub const PAGE_LENGTH: usize = 128;
+
+pub const UPPER: u8 = 128;
+
+// Where each page starts in the image.
+pub const PAGE_00: usize = 128;
+
+pub const PAGE_01: usize = 256;
+
+pub const PAGE_02: usize = 384;
+
+pub const PAGE_10: usize = 512;
+
+pub const PAGE_11: usize = 640;
+
+// Lower 3: the module's state, with InterruptDeasserted in bit 0.
+pub const MODULE_STATE: usize = 3;
+
+// The place in the image of an address of a page.
+pub fn on(page: usize, address: u8) -> usize
+    requires { ⌜ (page ≤ 640) × (128 ≤ address) ⌝ }
+    ensures { λ r. ⌜ r ≡ on page address ⌝ }
+{
+    page + ((address - UPPER) as usize)
+}
+
+// Whether a place is one of from .. to.
+pub fn within(i: usize, from: usize, to: usize) -> bool
+    ensures { λ r. ⌜ r ≡ both (leb from i) (leb i to) ⌝ }
+{
+    (from <= i) & (i <= to)
+}
+
+// Whether a place is one of the addresses from .. to of a page.
+pub fn on_page(i: usize, page: usize, from: u8, to: u8) -> bool
+    requires { ⌜ (page ≤ 640) × (128 ≤ from) × (128 ≤ to) ⌝ }
+    ensures { λ r. ⌜ r ≡ both (leb (on page from) i) (leb i (on page to)) ⌝ }
+{
+    within(i, on(page, from), on(page, to))
+}
+
+// Whether a byte keeps what a host writes to it.
+pub fn writable(i: usize) -> bool
+    ensures { λ r. ⌜ r ≡ writable i ⌝ }
+{
+    within(i, 31, 36)
+        | within(i, 126, 126)
+        | on_page(i, PAGE_10, 128, 132)
+        | on_page(i, PAGE_10, 137, 139)
+        | on_page(i, PAGE_10, 145, 153)
+        | on_page(i, PAGE_10, 156, 173)
+        | on_page(i, PAGE_10, 213, 232)
+}
+
+// Whether a read clears a byte.
+pub fn clearing(i: usize) -> bool
+    ensures { λ r. ⌜ r ≡ clearing i ⌝ }
+{
+    within(i, 8, 9) | on_page(i, PAGE_11, 134, 153)
+}
+
+// Whether start keeps a byte.
+pub fn kept(i: usize) -> bool
+    ensures { λ r. ⌜ r ≡ kept i ⌝ }
+{
+    within(i, 0, 2)
+        | within(i, 39, 40)
+        | within(i, 85, 117)
+        | on_page(i, PAGE_00, 128, 255)
+        | on_page(i, PAGE_01, 128, 255)
+        | on_page(i, PAGE_02, 128, 255)
+}

@@ -1,0 +1,2 @@
+-- Where the selected page can start.
+pub mod Starts

@@ -1,0 +1,35 @@
+-- The selected page is 128 whole bytes of the image, past lower memory. Assumes nothing.
+use Prim.Native.Nat.{ℕ, _+_, _≤_}
+use mathlib.Core.Bool.{Bool, true, false}
+use native.Mathlib.Omega.{arith}
+use lib.ListN.{getD}
+use Rattle.bits.specs.Choice.{pick}
+use Rattle.model.specs.Map.{Image}
+use Rattle.model.specs.Pages.{pagePlace, findPage, upperStart, selectedStart}
+use Rattle.model.specs.declared.page.PagePlace.{PagePlace}
+
+-- a page's 128 bytes lie in upper memory
+abbrev Fits : PagePlace → Type 0
+Fits p = (128 ≤ upperStart p) × (upperStart p + 128 ≤ 768)
+
+one-fits : (b : Bool) (p q : PagePlace) → Fits p → Fits q → Fits (pick b p q)
+unfolding pick
+one-fits true p q f g = f
+one-fits false p q f g = g
+
+place-fits : (bank page : ℕ) → Fits (pagePlace bank page)
+unfolding pagePlace findPage
+place-fits bank page =
+    one-fits _ _ _ (omega arith, omega arith)
+    (one-fits _ _ _ (omega arith, omega arith)
+    (one-fits _ _ _ (omega arith, omega arith)
+    (one-fits _ _ _ (omega arith, omega arith)
+    (one-fits _ _ _ (omega arith, omega arith) (omega arith, omega arith)))))
+
+pub start-low : (x : Image) → 128 ≤ selectedStart x
+unfolding selectedStart
+start-low x = place-fits (getD x 126 0) (getD x 127 0) .0
+
+pub start-fits : (x : Image) → selectedStart x + 128 ≤ 768
+unfolding selectedStart
+start-fits x = place-fits (getD x 126 0) (getD x 127 0) .1

@@ -1,0 +1,216 @@
+// Paths: which lanes an active DataPathID joins, and the hardware event that moves a path from state to state.
+ghost use mathlib.Core.Path.{_≡_};
+ghost use Prim.Native.Nat.{_+_, _≤_, _<_};
+ghost use lib.Dec.{eqb};
+ghost use lib.ListN.{length};
+ghost use Rattle.bits.specs.Choice.{onlyIf};
+ghost use Rattle.bits.specs.Sets.{has};
+ghost use Rattle.bits.specs.Lane.{laneField};
+ghost use Rattle.bits.specs.Place.{get};
+ghost use Rattle.model.specs.Map.{activeSet, stateChanged};
+ghost use Rattle.model.specs.PathStates.{resting};
+ghost use Rattle.model.specs.View.{appSel, pathId, of, isUsed, settingsOf, samePath, pathOf};
+ghost use Rattle.model.specs.Groups.{someIn};
+ghost use Rattle.model.specs.Work.{withPending};
+ghost use Rattle.model.specs.Hardware.{toDeinit, toReinit, nextState, initialized, withFlags, entered, moved, hardwareMoved};
+use model::path::PathState;
+use settings::ACTIVE_SET;
+
+// DPDeinit, 10h:128, a bit a lane.
+pub const DEINIT: usize = 512;
+
+// DPState, 11h:128-131, a nibble a lane.
+pub const STATES: usize = 640;
+
+// DPStateChanged, 11h:134, a bit a lane.
+pub const CHANGED: usize = 646;
+
+// DPInitPending, 11h:235, a bit a lane.
+pub const PENDING: usize = 747;
+
+// A lane's AppSel in the set at a base.
+pub fn app_at(image: &[u8], base: usize, lane: u8) -> u8
+    requires { ⌜ (base + 8 ≤ length (now image)) × (lane < 8) ⌝ }
+    ensures { λ r. ⌜ r ≡ appSel (of (settingsOf base (now (image .entry))) lane) ⌝ }
+{
+    bits::take_field(bits::lane_byte(image, base, lane), 4, 4)
+}
+
+// A lane's DataPathID in the set at a base.
+pub fn id_at(image: &[u8], base: usize, lane: u8) -> u8
+    requires { ⌜ (base + 8 ≤ length (now image)) × (lane < 8) ⌝ }
+    ensures { λ r. ⌜ r ≡ pathId (of (settingsOf base (now (image .entry))) lane) ⌝ }
+{
+    bits::take_field(bits::lane_byte(image, base, lane), 1, 3)
+}
+
+// Whether a lane is used in the set at a base.
+pub fn used_at(image: &[u8], base: usize, lane: u8) -> bool
+    requires { ⌜ (base + 8 ≤ length (now image)) × (lane < 8) ⌝ }
+    ensures { λ r. ⌜ r ≡ isUsed (of (settingsOf base (now (image .entry))) lane) ⌝ }
+{
+    app_at(image, base, lane) != 0
+}
+
+// Whether two lanes are used and of one active DataPathID.
+pub fn same_path(image: &[u8], lane: u8, other: u8) -> bool
+    requires { ⌜ (length (now image) ≡ 768) × (lane < 8) × (other < 8) ⌝ }
+    ensures { λ r. ⌜ r ≡ samePath (settingsOf activeSet (now (image .entry))) lane other ⌝ }
+{
+    let same = id_at(image, ACTIVE_SET, lane) == id_at(image, ACTIVE_SET, other);
+    used_at(image, ACTIVE_SET, lane) & (used_at(image, ACTIVE_SET, other) & same)
+}
+
+// The lanes of a lane's path; none where it is unused.
+pub fn path_of(image: &[u8], lane: u8) -> u8
+    requires { ⌜ (length (now image) ≡ 768) × (lane < 8) ⌝ }
+    ensures { λ r. ⌜ r ≡ pathOf (settingsOf activeSet (now (image .entry))) lane ⌝ }
+{
+    let mut path: u8 = 0;
+    for other in 0..8u8 {
+        let joined = same_path(image, lane, other);
+        path = bits::with_lane(path, other, joined);
+    }
+    path
+}
+
+// Whether two sets share a lane.
+pub fn meets(a: u8, b: u8) -> bool
+    ensures { λ r. ⌜ r ≡ someIn a (has b) ⌝ }
+{
+    a & b != 0
+}
+
+// Whether a lane of the set has its bit of a byte 1.
+pub fn some_bit(image: &[u8], at: usize, set: u8) -> bool
+    requires { ⌜ at + 1 ≤ length (now image) ⌝ }
+    ensures { λ r. ⌜ r ≡ someIn set (λ m. eqb (get (now (image .entry)) (laneField at 1 m)) 1) ⌝ }
+{
+    meets(set, image[at])
+}
+
+// S: a DPDeinit bit of the path is 1.
+pub fn to_deinit(image: &[u8], path: u8) -> bool
+    requires { ⌜ length (now image) ≡ 768 ⌝ }
+    ensures { λ r. ⌜ r ≡ toDeinit (now (image .entry)) path ⌝ }
+{
+    some_bit(image, DEINIT, path)
+}
+
+// R: S, or a DPInitPending bit of the path is 1.
+pub fn to_reinit(image: &[u8], path: u8) -> bool
+    requires { ⌜ length (now image) ≡ 768 ⌝ }
+    ensures { λ r. ⌜ r ≡ toReinit (now (image .entry)) path ⌝ }
+{
+    to_deinit(image, path) | some_bit(image, PENDING, path)
+}
+
+// The state that follows, by S and R.
+pub fn next_state(from: PathState, s: bool, r: bool) -> PathState
+    ensures { λ to. ⌜ to ≡ nextState from s r ⌝ }
+{
+    match from {
+        PathState::Reserved => PathState::Reserved,
+        PathState::Deactivated => if s {
+            PathState::Deactivated
+        } else {
+            PathState::Init
+        },
+        PathState::Init => if s {
+            PathState::Deinit
+        } else {
+            PathState::Initialized
+        },
+        PathState::Deinit => PathState::Deactivated,
+        PathState::Activated => if r {
+            PathState::TxTurnOff
+        } else {
+            PathState::Activated
+        },
+        PathState::TxTurnOn => if r {
+            PathState::TxTurnOff
+        } else {
+            PathState::Activated
+        },
+        PathState::TxTurnOff => PathState::Initialized,
+        PathState::Initialized => if r {
+            PathState::Deinit
+        } else {
+            PathState::TxTurnOn
+        },
+    }
+}
+
+// Whether a path rests in a state: DPDeactivated, DPInitialized, DPActivated.
+pub fn is_resting(state: PathState) -> bool
+    ensures { λ r. ⌜ r ≡ resting state ⌝ }
+{
+    match state {
+        PathState::Reserved => false,
+        PathState::Deactivated => true,
+        PathState::Init => false,
+        PathState::Deinit => false,
+        PathState::Activated => true,
+        PathState::TxTurnOn => false,
+        PathState::TxTurnOff => false,
+        PathState::Initialized => true,
+    }
+}
+
+// Whether DPInitialized is reached from DPInit.
+fn is_initialized(from: PathState, to: PathState) -> bool
+    ensures { λ r. ⌜ r ≡ initialized from to ⌝ }
+{
+    (from.code() == PathState::INIT) & (to.code() == PathState::INITIALIZED)
+}
+
+// What was pending is done once DPInitialized is reached from DPInit.
+fn clear_pending(image: &mut [u8], path: u8, from: PathState, to: PathState)
+    requires { ⌜ length (now image) ≡ 768 ⌝ }
+    ensures { λ _. ⌜ now (image .exit) ≡ onlyIf (initialized from to) (withPending (has path) 0) (now (image .entry)) ⌝ }
+{
+    if is_initialized(from, to) {
+        bits::put_each(image, PENDING, 1, path, 0);
+    }
+}
+
+// A resting state sets the lanes' DPStateChanged flags.
+fn flag_change(image: &mut [u8], path: u8, to: PathState)
+    requires { ⌜ length (now image) ≡ 768 ⌝ }
+    ensures { λ _. ⌜ now (image .exit) ≡ onlyIf (resting to) (withFlags stateChanged path) (now (image .entry)) ⌝ }
+{
+    if is_resting(to) {
+        bits::put_each(image, CHANGED, 1, path, 1);
+    }
+}
+
+// The path enters a state.
+fn enter(image: &mut [u8], path: u8, from: PathState, to: PathState)
+    requires { ⌜ length (now image) ≡ 768 ⌝ }
+    ensures { λ _. ⌜ now (image .exit) ≡ entered path from to (now (image .entry)) ⌝ }
+{
+    bits::put_each(image, STATES, 4, path, to.code());
+    clear_pending(image, path, from, to);
+    flag_change(image, path, to);
+}
+
+// A path that stays enters nothing.
+fn move_to(image: &mut [u8], path: u8, from: PathState, to: PathState)
+    requires { ⌜ length (now image) ≡ 768 ⌝ }
+    ensures { λ _. ⌜ now (image .exit) ≡ moved path from to (now (image .entry)) ⌝ }
+{
+    if from.code() != to.code() {
+        enter(image, path, from, to);
+    }
+}
+
+// A hardware event on the path of a lane.
+pub fn move_path(image: &mut [u8], lane: u8)
+    requires { ⌜ (length (now image) ≡ 768) × (lane < 8) ⌝ }
+    ensures { λ _. ⌜ now (image .exit) ≡ hardwareMoved (now (image .entry)) lane ⌝ }
+{
+    let path = path_of(image, lane);
+    let from = PathState::of(bits::nibble(image, STATES, lane));
+    let to = next_state(from, to_deinit(image, path), to_reinit(image, path));
+    move_to(image, path, from, to);
+}

@@ -1,0 +1,32 @@
+-- `reasons::is_too_late` meets its contract. Assumes nothing.
+use Rattle.model.specs.View.{viewOf}
+use Rattle.model.specs.Verdicts.{tooLate}
+use Rattle.paths.proofs.Turns.{and-both}
+use borrow.Author.Needs.{needs}
+use Rattle.reasons.proofs.is_too_late.Statement.{statement}
+use Rattle.reasons.proofs.is_too_late.Tie as tie
+
+enum-told : tie.Need-enum-told
+enum-told c = search needs
+
+enum-told-2 : tie.Need-enum-told-2
+enum-told-2 c = search needs
+
+has-other-app-sel-requires : tie.Need-has-other-app-sel-requires
+has-other-app-sel-requires c κs = search needs
+
+state-of-requires : tie.Need-state-of-requires
+state-of-requires c κs = search needs
+
+returns : tie.Need-returns
+unfolding tooLate
+returns c = rw (c .enum-told .given .1)
+
+returns-2 : tie.Need-returns-2
+unfolding tooLate viewOf
+returns-2 c = rw (c .before .before .enum-told2 .given .1, c .before .has-other-app-sel .ensures, c .state-of .ensures) (and-both _ _)
+
+pub is-too-late-spec : {M : Type 1} → statement M
+is-too-late-spec =
+    tie.close
+    (tie.spec enum-told enum-told-2 has-other-app-sel-requires state-of-requires returns returns-2)

@@ -1,0 +1,12 @@
+-- `settings::by_module` meets its contract. Assumes nothing.
+use Rattle.settings.proofs.by_module.Statement.{statement}
+use mathlib.Core.Path.{refl}
+use Rattle.model.specs.Work.{byModule}
+use Rattle.settings.proofs.by_module.Tie as tie
+
+returns : tie.Need-returns
+unfolding byModule
+returns c = refl
+
+pub by-module-spec : {M : Type 1} → statement M
+by-module-spec = tie.close (tie.spec returns)

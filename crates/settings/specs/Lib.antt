@@ -1,0 +1,2 @@
+-- What the inner functions of the codec leave.
+pub mod Parts

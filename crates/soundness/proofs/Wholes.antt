@@ -1,0 +1,90 @@
+-- Lanes that share an AppSel and a DataPathID, and the whole path that they make. Assumes nothing.
+use mathlib.Core.Path.{_≡_, refl, ap, ap₂, sym, _∙_}
+use mathlib.Core.Bool.{Bool, true, false, not, _&&_}
+use mathlib.Core.List.{List}
+use Prim.Native.Nat.{ℕ, _+_, _<_}
+use lib.Dec.{eqb, leb, ltb}
+use Rattle.bits.specs.Choice.{both, implies}
+use Rattle.bits.specs.Loop.{allBelow}
+use Rattle.bits.specs.Sets.{has, maskOf}
+use Rattle.bits.specs.Place.{get}
+use Rattle.bits.proofs.Number.{got-lt}
+use Rattle.bits.proofs.Loops.{all-ext}
+use Rattle.bits.proofs.Masks.{has-mask}
+use Rattle.model.specs.Map.{Image, activeSet, stagedSet0, stateAt}
+use Rattle.model.specs.Lanes.{stageAt, heldIn, idleWorking}
+use Rattle.model.specs.View.{viewOf, settingsAt, settingsOf, statesOf, applicationsOf, applicationIn, of, appSel, pathId, isUsed, samePath, pathOf, within, fills}
+use Rattle.model.specs.Sound.{share, makePath, agreeOnState, inWholePath, isAtRest, outsidePassing, heldsOf}
+use Rattle.model.specs.declared.application.Lookup.{Lookup}
+use Rattle.model.specs.declared.lane.Settings.{Settings}
+use Rattle.model.specs.declared.lane.Working.{Working}
+use Rattle.paths.proofs.Turns.{and-both}
+use Rattle.soundness.proofs.Choices.{case-true, case-false}
+use Rattle.soundness.proofs.Lanes.{held-of, states-of}
+
+pub within-by : (f n m : ℕ) → (leb f m && ltb m (f + n)) ≡ within f n m
+unfolding within
+within-by f n m = and-both _ _
+
+-- AppSel is a nibble, DataPathID three bits
+pub app-lt : (h : Settings) → appSel h < 16
+unfolding appSel
+app-lt h = got-lt (h .config) 4 4
+
+pub id-lt : (h : Settings) → pathId h < 8
+unfolding pathId
+id-lt h = got-lt (h .config) 1 3
+
+-- sharing, told from the lane's AppSel and DataPathID
+share-by : (s : List Settings) (c : ℕ → Bool) (l a f : ℕ) → a ≡ appSel (of s l) → f ≡ pathId (of s l)
+    → (not (eqb a 0) && allBelow 8 (λ m. implies (c m) (both (eqb (appSel (of s m)) a) (eqb (pathId (of s m)) f)))) ≡ share s c l
+unfolding share isUsed
+share-by s c l a f p q =
+    and-both (not (eqb a 0)) (allBelow 8 (λ m. implies (c m) (both (eqb (appSel (of s m)) a) (eqb (pathId (of s m)) f)))) ∙ rw (p, q)
+
+pub share-active-by : (x : Image) (g l a f : ℕ) → a ≡ appSel (of (settingsOf activeSet x) l) → f ≡ pathId (of (settingsOf activeSet x) l)
+    → (not (eqb a 0) && allBelow 8 (λ m. implies (has g m)
+    (both (eqb (appSel (of (settingsOf activeSet x) m)) a) (eqb (pathId (of (settingsOf activeSet x) m)) f)))) ≡ share (settingsOf activeSet x) (has g) l
+share-active-by x g = share-by (settingsOf activeSet x) (has g)
+
+pub share-held-by : (w : Working) (g l a f : ℕ) → l < 8 → a ≡ appSel (heldIn (stageAt w l)) → f ≡ pathId (heldIn (stageAt w l))
+    → (not (eqb a 0) && allBelow 8 (λ m. implies (has g m) (both (eqb (appSel (heldIn (stageAt w m))) a) (eqb (pathId (heldIn (stageAt w m))) f))))
+    ≡ share (heldsOf w) (has g) l
+share-held-by w g l a f b p q =
+    ap (λ t. not (eqb a 0) && t) (all-ext 8 _ _ (λ m d. rw (held-of w m d)))
+    ∙ share-by (heldsOf w) (has g) l a f (rw (held-of w l b) p) (rw (held-of w l b) q)
+
+-- a path made, told from the lane's AppSel and DataPathID
+pub path-by : (apps : List Lookup) (s : List Settings) (c : ℕ → Bool) (l g a f : ℕ) (t u : Bool) → a ≡ appSel (of s l) → f ≡ pathId (of s l)
+    → t ≡ share s c l → u ≡ fills (applicationIn apps a) f g → (t && u) ≡ makePath apps s c l g
+unfolding makePath
+path-by apps s c l g a f t u p q e d = and-both t u ∙ ap₂ both e (rw (p, q) at d)
+
+-- the lanes that pass a test, as a set
+pub path-of-mask : (apps : List Lookup) (s : List Settings) (c : ℕ → Bool) (l g : ℕ)
+    → makePath apps s (has (maskOf 8 c)) l g ≡ makePath apps s c l g
+unfolding makePath share
+path-of-mask apps s c l g =
+    ap (λ t. both (both (isUsed (of s l)) t) (fills (applicationIn apps (appSel (of s l))) (pathId (of s l)) g))
+    (all-ext 8 _ _ (λ m b. rw (has-mask 8 c m b)))
+
+-- (c) of a used lane
+pub in-whole-by : (x : Image) (l g s : ℕ) (t u : Bool) → l < 8 → g ≡ pathOf (settingsOf activeSet x) l → s ≡ get x (stateAt l)
+    → t ≡ makePath (applicationsOf x) (settingsOf activeSet x) (has g) l g → u ≡ agreeOnState (statesOf x) g l
+    → (t && (u && (leb 1 s && leb s 7))) ≡ inWholePath (viewOf stagedSet0 x) l
+unfolding inWholePath viewOf pathOf
+in-whole-by x l g s t u b p e q r =
+    let made = path-of-mask (applicationsOf x) (settingsOf activeSet x) (samePath (settingsOf activeSet x) l) l g in
+    rw (states-of x l b, ← p, ← e)
+    (and-both t (u && (leb 1 s && leb s 7)) ∙ ap₂ both (q ∙ (rw (← p) at made)) (and-both u (leb 1 s && leb s 7) ∙ ap₂ both r (and-both (leb 1 s) (leb s 7))))
+
+-- (c) and (d): which of them is asked of a lane
+pub outside-used : (x : Image) (l : ℕ) (r : Bool) → isUsed (of (settingsOf activeSet x) l) ≡ true → r ≡ inWholePath (viewOf stagedSet0 x) l
+    → r ≡ outsidePassing x (viewOf stagedSet0 x) idleWorking l
+unfolding outsidePassing viewOf
+outside-used x l r t q = q ∙ case-true (isUsed (of (settingsOf activeSet x) l)) _ _ t
+
+pub outside-unused : (x : Image) (l : ℕ) (r : Bool) → isUsed (of (settingsOf activeSet x) l) ≡ false → r ≡ isAtRest x (viewOf stagedSet0 x) l
+    → r ≡ outsidePassing x (viewOf stagedSet0 x) idleWorking l
+unfolding outsidePassing viewOf
+outside-unused x l r t q = q ∙ case-false (isUsed (of (settingsOf activeSet x) l)) _ _ t

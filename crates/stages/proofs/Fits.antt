@@ -1,0 +1,40 @@
+-- The code's tests of triggers and settings are the model's. Assumes nothing.
+use mathlib.Core.Path.{_≡_, refl, sym, _∙_}
+use mathlib.Core.Bool.{Bool, true, false, not, _&&_}
+use Prim.Native.Nat.{ℕ, _<_}
+use lib.Dec.{ltb}
+use borrow.Author.Tests.{lt-ltb}
+use Rattle.bits.specs.Choice.{both}
+use Rattle.bits.specs.Loop.{allBelow}
+use Rattle.model.specs.View.{settingValues}
+use Rattle.model.specs.Sound.{sameTrigger, settingsFit}
+use Rattle.model.specs.declared.lane.Settings.{Settings}
+use Rattle.model.specs.declared.lane.Trigger.{Trigger}
+use Rattle.model.specs.declared.lane.Trigger.the-variants.{DpInit, Immediate}
+
+-- a trigger that is not ApplyDPInit is ApplyImmediate
+pub not-init : (t : Trigger) → not (sameTrigger DpInit t) ≡ sameTrigger Immediate t
+unfolding sameTrigger
+not-init DpInit = refl
+not-init Immediate = refl
+
+-- seven tests in a row
+
+pub and-seven : (a b c d e f g : Bool) → ((((((a && b) && c) && d) && e) && f) && g) ≡ both (both (both (both (both (both a b) c) d) e) f) g
+unfolding both
+and-seven false b c d e f g = refl
+and-seven true false c d e f g = refl
+and-seven true true false d e f g = refl
+and-seven true true true false e f g = refl
+and-seven true true true true false f g = refl
+and-seven true true true true true false g = refl
+and-seven true true true true true true g = refl
+
+-- a byte always fits DPConfig
+pub fit-by : (h : Settings) → h .config < 256
+    → ((((((ltb (h .adaptive) 2 && ltb (h .equalizer) 16) && ltb (h .«cdr_tx») 2) && ltb (h .«cdr_rx») 2) && ltb (h .pre) 16) && ltb (h .post) 16) && ltb (h .amplitude) 16)
+    ≡ settingsFit h
+unfolding settingsFit settingValues allBelow both
+fit-by h b =
+    and-seven (ltb (h .adaptive) 2) (ltb (h .equalizer) 16) (ltb (h .«cdr_tx») 2) (ltb (h .«cdr_rx») 2) (ltb (h .pre) 16) (ltb (h .post) 16) (ltb (h .amplitude) 16)
+    ∙ sym (rw (lt-ltb (h .config) 256 b, both))

@@ -1,0 +1,11 @@
+-- `stages::settings_fit` meets its contract. Assumes nothing.
+use native.Mathlib.Omega.{arith}
+use Rattle.stages.proofs.Fits.{fit-by}
+use Rattle.stages.proofs.settings_fit.Statement.{statement}
+use Rattle.stages.proofs.settings_fit.Tie as tie
+
+returns : tie.Need-returns
+returns c = fit-by _ (omega arith)
+
+pub settings-fit-spec : {M : Type 1} → statement M
+settings-fit-spec = tie.close (tie.spec returns)

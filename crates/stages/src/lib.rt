@@ -1,0 +1,232 @@
+// The lanes' stages: what a record holds, and whether the records of a group fit together.
+ghost use mathlib.Core.Path.{_≡_};
+ghost use Prim.Native.Nat.{_<_};
+ghost use lib.Dec.{ltb};
+ghost use Rattle.bits.specs.Choice.{both};
+ghost use Rattle.bits.specs.Sets.{has};
+ghost use Rattle.model.specs.Lanes.{stageAt, isInProgress, isPass, isPassing, heldIn};
+ghost use Rattle.model.specs.Groups.{everyIn};
+ghost use Rattle.model.specs.Work.{isRelease};
+ghost use Rattle.model.specs.Sound.{sameTrigger, sameVerdict, agrees, settingsFit, verdictFits, stageFits};
+ghost use Rattle.model.specs.declared.lane.Trigger.the-variants.{DpInit};
+ghost use Rattle.model.specs.declared.lane.Verdict.the-variants.{Pass, Reject};
+use model::lane::LaneRecord;
+use model::lane::Progress;
+use model::lane::Settings;
+use model::lane::Stage;
+use model::lane::Trigger;
+use model::lane::Verdict;
+use model::lane::Working;
+use model::status::Status;
+
+// The stage of a lane.
+pub fn stage_at(w: Working, lane: u8) -> Stage
+    requires { ⌜ lane < 8 ⌝ }
+    ensures { λ r. ⌜ r ≡ stageAt w lane ⌝ }
+{
+    let i = lane as usize;
+    let record = w.lanes[i];
+    let stage = record.stage;
+    stage
+}
+
+// Whether an Apply is under way.
+pub fn is_in_progress(stage: Stage) -> bool
+    ensures { λ r. ⌜ r ≡ isInProgress stage ⌝ }
+{
+    match stage {
+        Stage::Idle => false,
+        Stage::InProgress(_) => true,
+    }
+}
+
+fn is_pass(verdict: Verdict) -> bool
+    ensures { λ r. ⌜ r ≡ isPass verdict ⌝ }
+{
+    match verdict {
+        Verdict::Pass(_) => true,
+        Verdict::Reject(_) => false,
+    }
+}
+
+// Whether the lane belongs to a passing group.
+pub fn is_passing(stage: Stage) -> bool
+    ensures { λ r. ⌜ r ≡ isPassing stage ⌝ }
+{
+    match stage {
+        Stage::Idle => false,
+        Stage::InProgress(p) => {
+            let verdict = p.verdict;
+            is_pass(verdict)
+        }
+    }
+}
+
+// The settings that a stage holds; an idle one holds zeros.
+pub fn held_in(stage: Stage) -> Settings
+    ensures { λ r. ⌜ r ≡ heldIn stage ⌝ }
+{
+    match stage {
+        Stage::Idle => Settings {
+            config: 0,
+            adaptive: 0,
+            equalizer: 0,
+            cdr_tx: 0,
+            cdr_rx: 0,
+            pre: 0,
+            post: 0,
+            amplitude: 0,
+        },
+        Stage::InProgress(p) => {
+            let held = p.held;
+            held
+        }
+    }
+}
+
+// The settings that a lane's record holds.
+pub fn held_at(w: Working, lane: u8) -> Settings
+    requires { ⌜ lane < 8 ⌝ }
+    ensures { λ r. ⌜ r ≡ heldIn (stageAt w lane) ⌝ }
+{
+    held_in(stage_at(w, lane))
+}
+
+// A release: no lane of the group holds an AppSel.
+pub fn is_release(w: Working, group: u8) -> bool
+    ensures { λ r. ⌜ r ≡ isRelease w group ⌝ }
+{
+    let mut used = false;
+    for lane in 0..8u8 {
+        let held = held_at(w, lane);
+        used = used | (bits::is_in(group, lane) & settings::is_used(held));
+    }
+    !used
+}
+
+// Whether a trigger is ApplyDPInit.
+fn is_init(trigger: Trigger) -> bool
+    ensures { λ r. ⌜ r ≡ sameTrigger DpInit trigger ⌝ }
+{
+    match trigger {
+        Trigger::DpInit => true,
+        Trigger::Immediate => false,
+    }
+}
+
+fn same_trigger(a: Trigger, b: Trigger) -> bool
+    ensures { λ r. ⌜ r ≡ sameTrigger a b ⌝ }
+{
+    match a {
+        Trigger::DpInit => is_init(b),
+        Trigger::Immediate => !is_init(b),
+    }
+}
+
+// Whether a verdict is a pass whose next lane is n.
+fn passes_at(verdict: Verdict, n: u8) -> bool
+    ensures { λ r. ⌜ r ≡ sameVerdict (Pass n) verdict ⌝ }
+{
+    match verdict {
+        Verdict::Pass(m) => n == m,
+        Verdict::Reject(_) => false,
+    }
+}
+
+// Whether a verdict is a rejection with a code.
+fn rejects_with(verdict: Verdict, code: u8) -> bool
+    ensures { λ r. ⌜ r ≡ sameVerdict (Reject code) verdict ⌝ }
+{
+    match verdict {
+        Verdict::Pass(_) => false,
+        Verdict::Reject(other) => code == other,
+    }
+}
+
+fn same_verdict(a: Verdict, b: Verdict) -> bool
+    ensures { λ r. ⌜ r ≡ sameVerdict a b ⌝ }
+{
+    match a {
+        Verdict::Pass(n) => passes_at(b, n),
+        Verdict::Reject(code) => rejects_with(b, code),
+    }
+}
+
+// Whether a stage is in progress with the same group, trigger, verdict and next lane.
+fn agrees(p: Progress, stage: Stage) -> bool
+    ensures { λ r. ⌜ r ≡ agrees p stage ⌝ }
+{
+    match stage {
+        Stage::Idle => false,
+        Stage::InProgress(q) => {
+            let trigger = p.trigger;
+            let verdict = p.verdict;
+            let other_trigger = q.trigger;
+            let other_verdict = q.verdict;
+            (p.group == q.group)
+                & (same_trigger(trigger, other_trigger) & same_verdict(verdict, other_verdict))
+        }
+    }
+}
+
+// Whether every lane of the group agrees.
+fn all_agree(w: Working, p: Progress) -> bool
+    ensures { λ r. ⌜ r ≡ everyIn (p .group) (λ m. agrees p (stageAt w m)) ⌝ }
+{
+    let mut all = true;
+    for lane in 0..8u8 {
+        let agreed = agrees(p, stage_at(w, lane));
+        all = all & (!bits::is_in(p.group, lane) | agreed);
+    }
+    all
+}
+
+// Whether held values fit their fields: bits and nibbles; DPConfig is a byte.
+fn settings_fit(h: Settings) -> bool
+    ensures { λ r. ⌜ r ≡ settingsFit h ⌝ }
+{
+    (h.adaptive < 2)
+        & (h.equalizer < 16)
+        & (h.cdr_tx < 2)
+        & (h.cdr_rx < 2)
+        & (h.pre < 16)
+        & (h.post < 16)
+        & (h.amplitude < 16)
+}
+
+// Whether a pass's next lane is one of the group.
+fn is_lane_of(group: u8, n: u8) -> bool
+    ensures { λ r. ⌜ r ≡ both (ltb n 8) (has group n) ⌝ }
+{
+    if n < LaneRecord::COUNT {
+        bits::is_in(group, n)
+    } else {
+        false
+    }
+}
+
+// A rejection's code is 2 to 7; a pass's next lane is one of the group or the end.
+fn verdict_fits(group: u8, verdict: Verdict) -> bool
+    ensures { λ r. ⌜ r ≡ verdictFits group verdict ⌝ }
+{
+    match verdict {
+        Verdict::Pass(n) => (n == LaneRecord::COUNT) | is_lane_of(group, n),
+        Verdict::Reject(code) => (Status::REJECTED <= code) & (code <= Status::PARTIAL_PATH),
+    }
+}
+
+// Condition (b) of soundness: the lane is of its group, whose lanes agree, and what its record holds is possible.
+pub fn stage_fits(w: Working, lane: u8, stage: Stage) -> bool
+    requires { ⌜ lane < 8 ⌝ }
+    ensures { λ r. ⌜ r ≡ stageFits w lane stage ⌝ }
+{
+    match stage {
+        Stage::Idle => true,
+        Stage::InProgress(p) => {
+            let held = p.held;
+            let verdict = p.verdict;
+            (bits::is_in(p.group, lane) & all_agree(w, p))
+                & (settings_fit(held) & verdict_fits(p.group, verdict))
+        }
+    }
+}

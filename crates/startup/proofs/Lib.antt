@@ -1,0 +1,2 @@
+-- Start, byte by byte.
+pub mod Starting

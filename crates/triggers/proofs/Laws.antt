@@ -1,0 +1,134 @@
+-- Which lanes are marked, marking lane by lane, and what a trigger leaves once all are marked. Assumes nothing.
+use mathlib.Core.Path.{_≡_, refl, sym, ap, _∙_}
+use mathlib.Core.Bool.{Bool, true, false, not}
+use Prim.Native.Nat.{ℕ, _+_, _<_}
+use native.Mathlib.Numerals.{add-one}
+use native.Mathlib.Omega.{arith}
+use mir.Val.{boolByte}
+use lib.ListN.{length, set}
+use Rattle.bits.specs.Choice.{pick, both}
+use Rattle.bits.specs.Lane.{laneField}
+use Rattle.bits.specs.Loop.{each, tab, seek}
+use Rattle.bits.specs.Number.{field, withField}
+use Rattle.bits.specs.Place.{put}
+use Rattle.bits.specs.Sets.{has, maskOf, nextIn}
+use Rattle.bits.proofs.Tests.{split, pick-true, pick-false}
+use Rattle.bits.proofs.Number.{back, field-past}
+use Rattle.bits.proofs.Masks.{mask-lt, has-mask}
+use Rattle.bits.proofs.Loops.{each-begin, each-ext, each-turn, each-pass, set-loop, tab-ext, any-ext}
+use Rattle.paths.proofs.Turns.{mask-begin, mask-turn}
+use Rattle.verdicts.proofs.Laws.{verdict-none}
+use Rattle.settings.proofs.View.{settings-of}
+use Rattle.model.specs.Map.{Image}
+use Rattle.model.specs.Lanes.{idleRecord, recordAt, stageAt, isInProgress, anyInProgress, withStage, withStages}
+use Rattle.model.specs.View.{View, settingsAt, viewOf}
+use Rattle.model.specs.Groups.{groupOf, firstIn, someIn}
+use Rattle.model.specs.Verdicts.{verdictOf}
+use Rattle.model.specs.Triggers.{withStatus, isMarked, markedStage, stageAfter, marked, isIgnored, triggered}
+use Rattle.model.specs.declared.lane.Settings.{Settings}
+use Rattle.model.specs.declared.lane.Trigger.{Trigger}
+use Rattle.model.specs.declared.lane.Verdict.{Verdict}
+use Rattle.model.specs.declared.lane.Verdict.the-variants.{Pass}
+use Rattle.model.specs.declared.lane.Stage.the-variants.{InProgress}
+use Rattle.model.specs.declared.lane.Working.{Working}
+use Rattle.triggers.specs.declared.Marking.{Marking}
+use Rattle.triggers.specs.Marks.{Leaves, Marks}
+
+-- ---- which lanes
+
+pub unselected : (v : View) (w : Working) (selected l : ℕ) → has selected l ≡ false → isMarked v w selected l ≡ false
+unfolding isMarked both
+unselected v w selected l e = rw (e, both)
+
+pub selected-marked : (v : View) (w : Working) (selected l busy g : ℕ) (b : Bool) → has selected l ≡ true → busy ≡ maskOf 8 (λ m. isInProgress (stageAt w m))
+    → g ≡ groupOf v selected l → b ≡ someIn g (has busy) → isMarked v w selected l ≡ not b
+unfolding isMarked both anyInProgress someIn
+selected-marked v w selected l busy g b e h p q =
+    rw (e, both, ← p)
+    (ap not (sym (q ∙ any-ext 8 _ _ (λ m k. ap (both (has g m)) (rw h (has-mask 8 _ m k))))))
+
+-- ---- lane by lane
+
+mask-pass : (p : ℕ → Bool) (n : ℕ) → p n ≡ false → maskOf n p ≡ maskOf (n + 1) p
+unfolding maskOf
+mask-pass p n e =
+    rw (add-one n, e)
+    (sym (rw (field-past (maskOf n p) n n 1 (mask-lt n p) (omega arith)) at (back (maskOf n p) n 1)))
+
+-- the empty set has no lane
+first-none : firstIn 0 ≡ 8
+unfolding nextIn seek pick has field
+first-none = refl
+
+pub mark-begin : (t : Trigger) (base : ℕ) (x : Image) (w : Working) (selected : ℕ)
+    → Marks t (viewOf base x) w selected 0 (record { working = w; marked = 0; group = 0; verdict = Pass 8 })
+mark-begin t base x w selected =
+    record {
+      lanes = each-begin _ _ (w .lanes);
+      marked = mask-begin _;
+      judged = ap Pass (sym first-none) ∙ verdict-none t base x 0 (omega (arith, first-none));
+    }
+
+module _ (t : Trigger) (base : ℕ) (x : Image) (w : Working) (selected n : ℕ) (m : Marking) where
+  pub mark-pass : isMarked (viewOf base x) w selected n ≡ false → Marks t (viewOf base x) w selected n m → Marks t (viewOf base x) w selected (n + 1) m
+  mark-pass e h =
+      record {
+        lanes = each-pass _ _ n (w .lanes) (m .working .lanes) (h .lanes) e;
+        marked = h .marked ∙ mask-pass _ n e;
+        judged = h .judged;
+      }
+
+  -- the record that a marked lane is given
+  stage-by : (g : ℕ) (held : Settings) (d : Verdict) → n < 8 → g ≡ groupOf (viewOf base x) selected n → held ≡ settingsAt base x n
+      → d ≡ verdictOf t (viewOf base x) g
+      → InProgress (record { group = g; held = held; trigger = t; verdict = d }) ≡ markedStage t (viewOf base x) selected n
+  unfolding markedStage viewOf
+  stage-by g held d b p q r = rw (r, p, q, settings-of base x n b)
+
+  pub mark-turn : (g k : ℕ) (held : Settings) (d : Verdict) → n < 8 → isMarked (viewOf base x) w selected n ≡ true → Marks t (viewOf base x) w selected n m
+      → g ≡ groupOf (viewOf base x) selected n → held ≡ settingsAt base x n → d ≡ verdictOf t (viewOf base x) g → k ≡ withField (m .marked) n 1 (boolByte true)
+      → Marks t (viewOf base x) w selected (n + 1)
+      (record {
+        working =
+            record {
+              lanes =
+                  set (m .working .lanes) n
+                  (record { stage = InProgress (record { group = g; held = held; trigger = t; verdict = d }) });
+            };
+        marked = k;
+        group = g;
+        verdict = d;
+      })
+  mark-turn g k held d b e h p q r s =
+      record {
+        lanes = rw (stage-by g held d b p q r) (each-turn _ _ n (w .lanes) (m .working .lanes) (h .lanes) e);
+        marked = mask-turn _ n (m .marked) k true (h .marked) (sym e) s;
+        judged = r;
+      }
+
+-- ---- all lanes
+
+module _ (t : Trigger) (base : ℕ) (x : Image) (w : Working) (selected : ℕ) where
+  pub left-alone : isIgnored t x ≡ true → Leaves (triggered t base (record { image = x; working = w }) selected) x w
+  unfolding triggered
+  left-alone e = rw (pick-true _ _ e) (record { registers = refl; records = refl })
+
+  -- the records, all marked
+  records-by : (rs : _) → length (w .lanes) ≡ 8
+      → rs ≡ each (isMarked (viewOf base x) w selected) (λ l rs. set rs l (record { stage = markedStage t (viewOf base x) selected l })) 8 (w .lanes)
+      → rs ≡ tab 8 (λ l. withStage (recordAt w l) (stageAfter t (viewOf base x) w selected l))
+  unfolding withStage stageAfter pick
+  records-by rs len h =
+      h ∙ set-loop _ _ (w .lanes) 8 idleRecord len
+      ∙ tab-ext 8 _ _ (λ l b. split (isMarked (viewOf base x) w selected l) (λ e. rw (e, pick)) (λ e. rw (e, pick)))
+
+  pub all-marked : (m : Marking) (y : Image) → length (w .lanes) ≡ 8 → isIgnored t x ≡ false → Marks t (viewOf base x) w selected 8 m
+      → y ≡ each (has (m .marked)) (λ l z. put z (laneField 714 4 l) 12) 8 x
+      → Leaves (triggered t base (record { image = x; working = w }) selected) y (m .working)
+  unfolding triggered marked withStatus withStages
+  all-marked m y len e h p =
+      rw (pick-false _ _ e)
+      (record {
+        registers = p ∙ each-ext _ _ _ _ 8 x (λ l b. rw (h .marked) (has-mask 8 _ l b)) (λ l z b c. refl);
+        records = ap (λ rs. record { lanes = rs }) (records-by (m .working .lanes) len (h .lanes));
+      })

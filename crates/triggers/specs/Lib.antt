@@ -1,0 +1,2 @@
+-- What the trigger's contracts cite beside the model.
+pub mod Marks

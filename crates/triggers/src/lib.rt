@@ -1,0 +1,158 @@
+// A trigger: the groups that it finds are marked, with their verdicts fixed at once and what is staged held.
+ghost use mathlib.Core.Path.{_≡_};
+ghost use Prim.Native.Nat.{_+_, _≤_, _<_};
+ghost use lib.ListN.{length};
+ghost use Rattle.bits.specs.Sets.{maskOf};
+ghost use Rattle.model.specs.Lanes.{stageAt, isInProgress};
+ghost use Rattle.model.specs.View.{viewOf};
+ghost use Rattle.model.specs.Verdicts.{verdictOf};
+ghost use Rattle.model.specs.Triggers.{isIgnored, triggered};
+ghost use Rattle.triggers.specs.Marks.{Leaves, Marks};
+use model::lane::LaneRecord;
+use model::lane::Progress;
+use model::lane::Stage;
+use model::lane::Trigger;
+use model::lane::Verdict;
+use model::lane::Working;
+use model::status::Status;
+
+// ConfigStatus, 11h:202-205, a nibble a lane.
+pub const STATUS: usize = 714;
+
+// Lower byte 2, whose bit 6 is SteppedConfigOnly.
+const CHARACTERISTICS: usize = 2;
+
+// What marking has come to: the records, the lanes marked, and the last group judged with its verdict, which the group's other lanes share.
+pub struct Marking {
+    pub working: Working,
+    pub marked: u8,
+    pub group: u8,
+    pub verdict: Verdict,
+}
+
+// Whether a stage is in progress.
+pub fn is_in_progress(stage: Stage) -> bool
+    ensures { λ r. ⌜ r ≡ isInProgress stage ⌝ }
+{
+    match stage {
+        Stage::Idle => false,
+        Stage::InProgress(_) => true,
+    }
+}
+
+// The lanes in progress.
+pub fn busy_lanes(w: Working) -> u8
+    ensures { λ r. ⌜ r ≡ maskOf 8 (λ l. isInProgress (stageAt w l)) ⌝ }
+{
+    let mut busy: u8 = 0;
+    for lane in 0..8u8 {
+        let i = lane as usize;
+        let own = w.lanes[i];
+        let stage = own.stage;
+        let yes = is_in_progress(stage);
+        busy = bits::with_lane(busy, lane, yes);
+    }
+    busy
+}
+
+// Whether the module ignores a trigger: ApplyImmediate where it is configured in steps only.
+fn is_ignored(image: &[u8], kind: Trigger) -> bool
+    requires { ⌜ length (now image) ≡ 768 ⌝ }
+    ensures { λ r. ⌜ r ≡ isIgnored kind (now (image .entry)) ⌝ }
+{
+    match kind {
+        Trigger::DpInit => false,
+        Trigger::Immediate => bits::take_field(image[CHARACTERISTICS], 6, 1) == 1,
+    }
+}
+
+// The verdict on a group, given that on another, which may be the same.
+fn judge(
+    image: &[u8],
+    base: usize,
+    kind: Trigger,
+    group: u8,
+    other: u8,
+    verdict: Verdict,
+) -> Verdict
+    requires { ⌜ (length (now image) ≡ 768) × (base + 29 ≤ 768) × (verdict ≡ verdictOf kind (viewOf base (now image)) other) ⌝ }
+    ensures { λ r. ⌜ r ≡ verdictOf kind (viewOf base (now (image .entry))) group ⌝ }
+{
+    if group == other {
+        return verdict;
+    }
+    verdicts::verdict_of(image, base, kind, group)
+}
+
+// One more lane: marked if it is selected and no lane of its group is in progress already.
+fn mark_lane(
+    image: &[u8],
+    w: Working,
+    kind: Trigger,
+    base: usize,
+    selected: u8,
+    lane: u8,
+    m: Marking,
+) -> Marking
+    requires { ⌜ (length (now image) ≡ 768) × (base + 29 ≤ 768) × (lane < 8) × Marks kind (viewOf base (now image)) w selected lane m ⌝ }
+    ensures { λ r. ⌜ Marks kind (viewOf base (now (image .entry))) w selected (lane + 1) r ⌝ }
+{
+    if !bits::is_in(selected, lane) {
+        return m;
+    }
+    let busy = busy_lanes(w);
+    let group = groups::group_of(image, base, selected, lane);
+    if paths::meets(group, busy) {
+        return m;
+    }
+    let last = m.verdict;
+    let verdict = judge(image, base, kind, group, m.group, last);
+    let held = settings::settings_at(image, base, lane);
+    let mut working = m.working;
+    let i = lane as usize;
+    working.lanes[i] = LaneRecord {
+        stage: Stage::InProgress(Progress {
+            group,
+            held,
+            trigger: kind,
+            verdict,
+        }),
+    };
+    let marked = bits::with_lane(m.marked, lane, true);
+    Marking {
+        working,
+        marked,
+        group,
+        verdict,
+    }
+}
+
+// The lanes and their records as the trigger marks them, all from the state before any is marked.
+fn mark(image: &[u8], w: Working, kind: Trigger, base: usize, selected: u8) -> Marking
+    requires { ⌜ (length (now image) ≡ 768) × (base + 29 ≤ 768) ⌝ }
+    ensures { λ r. ⌜ Marks kind (viewOf base (now (image .entry))) w selected 8 r ⌝ }
+{
+    let mut m = Marking {
+        working: w,
+        marked: 0,
+        group: 0,
+        verdict: Verdict::Pass(LaneRecord::COUNT),
+    };
+    for lane in 0..8u8 {
+        m = mark_lane(image, w, kind, base, selected, lane, m);
+    }
+    m
+}
+
+// A trigger of the staged set at a base, for the selected lanes.
+pub fn trigger(image: &mut [u8], w: Working, kind: Trigger, base: usize, selected: u8) -> Working
+    requires { ⌜ (length (now image) ≡ 768) × (base + 29 ≤ 768) ⌝ }
+    ensures { λ r. ⌜ Leaves (triggered kind base (record { image = now (image .entry); working = w }) selected) (now (image .exit)) r ⌝ }
+{
+    if is_ignored(image, kind) {
+        return w;
+    }
+    let m = mark(image, w, kind, base, selected);
+    bits::put_each(image, STATUS, 4, m.marked, Status::IN_PROGRESS);
+    m.working
+}

@@ -1,0 +1,2 @@
+-- What the functions of the work step leave.
+pub mod Leaves
