@@ -12,13 +12,6 @@ ghost use Rattle.access.specs.Left.{ReadOut};
 use model::lane::Trigger;
 use model::lane::Working;
 
-// Page 10h: the triggers ApplyDPInit and ApplyImmediate, and the staged set that they apply.
-const APPLY_DP_INIT: usize = map::PAGE_10 + (143 - 128);
-
-const APPLY_IMMEDIATE: usize = map::PAGE_10 + (144 - 128);
-
-const STAGED_SET_0: usize = map::PAGE_10 + (145 - 128);
-
 // The most bytes of one access.
 pub const WRITE_LIMIT: usize = 8;
 
@@ -59,7 +52,7 @@ pub fn shown(image: &[u8], start: usize, k: usize) -> u8
     ensures { λ r. ⌜ r ≡ shown (now (image .entry)) (start + k) ⌝ }
 {
     let i = start + k;
-    if (i == APPLY_DP_INIT) | (i == APPLY_IMMEDIATE) {
+    if (i == map::APPLY_DP_INIT) | (i == map::APPLY_IMMEDIATE) {
         return 0;
     }
     pages::page_byte(image, start, k)
@@ -125,11 +118,11 @@ pub fn write_at(image: &mut [u8], w: Working, start: usize, offset: usize, v: u8
         pages::select_page(image, v);
         return w;
     }
-    if i == APPLY_DP_INIT {
-        return triggers::trigger(image, w, Trigger::DpInit, STAGED_SET_0, v);
+    if i == map::APPLY_DP_INIT {
+        return triggers::trigger(image, w, Trigger::DpInit, map::STAGED_SET_0, v);
     }
-    if i == APPLY_IMMEDIATE {
-        return triggers::trigger(image, w, Trigger::Immediate, STAGED_SET_0, v);
+    if i == map::APPLY_IMMEDIATE {
+        return triggers::trigger(image, w, Trigger::Immediate, map::STAGED_SET_0, v);
     }
     store(image, start, offset, v);
     w

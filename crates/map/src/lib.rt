@@ -1,4 +1,4 @@
-// The register map in code: where each page starts, and which bytes of the image keep a write, are cleared by a read, or are kept by start.
+// The register map in code: where each page and each lane register starts, and which bytes of the image keep a write, are cleared by a read, or are kept by start.
 ghost use mathlib.Core.Path.{_≡_};
 ghost use Prim.Native.Nat.{_≤_};
 ghost use lib.Dec.{leb};
@@ -25,6 +25,26 @@ pub const PAGE_11: usize = 640;
 
 // Lower 3: the module's state, with InterruptDeasserted in bit 0.
 pub const MODULE_STATE: usize = 3;
+
+// Page 10h: DPDeinit, a bit a lane; the triggers ApplyDPInit and ApplyImmediate; Staged Control Set 0.
+pub const DEINIT: usize = PAGE_10 + (128 - 128);
+
+pub const APPLY_DP_INIT: usize = PAGE_10 + (143 - 128);
+
+pub const APPLY_IMMEDIATE: usize = PAGE_10 + (144 - 128);
+
+pub const STAGED_SET_0: usize = PAGE_10 + (145 - 128);
+
+// Page 11h: DPState, a nibble a lane; DPStateChanged, a bit a lane; ConfigStatus, a nibble a lane; the active settings; DPInitPending, a bit a lane.
+pub const STATES: usize = PAGE_11 + (128 - 128);
+
+pub const STATE_CHANGED: usize = PAGE_11 + (134 - 128);
+
+pub const STATUSES: usize = PAGE_11 + (202 - 128);
+
+pub const ACTIVE_SET: usize = PAGE_11 + (206 - 128);
+
+pub const PENDING: usize = PAGE_11 + (235 - 128);
 
 // The place in the image of an address of a page.
 pub fn on(page: usize, address: u8) -> usize

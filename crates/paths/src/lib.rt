@@ -13,20 +13,8 @@ ghost use Rattle.model.specs.View.{appSel, pathId, of, isUsed, settingsOf, same
 ghost use Rattle.model.specs.Groups.{someIn};
 ghost use Rattle.model.specs.Work.{withPending};
 ghost use Rattle.model.specs.Hardware.{toDeinit, toReinit, nextState, initialized, withFlags, entered, moved, hardwareMoved};
+use map::ACTIVE_SET;
 use model::path::PathState;
-use settings::ACTIVE_SET;
-
-// DPDeinit, 10h:128, a bit a lane.
-pub const DEINIT: usize = 512;
-
-// DPState, 11h:128-131, a nibble a lane.
-pub const STATES: usize = 640;
-
-// DPStateChanged, 11h:134, a bit a lane.
-pub const CHANGED: usize = 646;
-
-// DPInitPending, 11h:235, a bit a lane.
-pub const PENDING: usize = 747;
 
 // A lane's AppSel in the set at a base.
 pub fn app_at(image: &[u8], base: usize, lane: u8) -> u8
@@ -94,7 +82,7 @@ pub fn to_deinit(image: &[u8], path: u8) -> bool
     requires { ⌜ length (now image) ≡ 768 ⌝ }
     ensures { λ r. ⌜ r ≡ toDeinit (now (image .entry)) path ⌝ }
 {
-    some_bit(image, DEINIT, path)
+    some_bit(image, map::DEINIT, path)
 }
 
 // R: S, or a DPInitPending bit of the path is 1.
@@ -102,7 +90,7 @@ pub fn to_reinit(image: &[u8], path: u8) -> bool
     requires { ⌜ length (now image) ≡ 768 ⌝ }
     ensures { λ r. ⌜ r ≡ toReinit (now (image .entry)) path ⌝ }
 {
-    to_deinit(image, path) | some_bit(image, PENDING, path)
+    to_deinit(image, path) | some_bit(image, map::PENDING, path)
 }
 
 // The state that follows, by S and R.
@@ -170,7 +158,7 @@ fn clear_pending(image: &mut [u8], path: u8, from: PathState, to: PathState)
     ensures { λ _. ⌜ now (image .exit) ≡ onlyIf (initialized from to) (withPending (has path) 0) (now (image .entry)) ⌝ }
 {
     if is_initialized(from, to) {
-        bits::put_each(image, PENDING, 1, path, 0);
+        bits::put_each(image, map::PENDING, 1, path, 0);
     }
 }
 
@@ -180,7 +168,7 @@ fn flag_change(image: &mut [u8], path: u8, to: PathState)
     ensures { λ _. ⌜ now (image .exit) ≡ onlyIf (resting to) (withFlags stateChanged path) (now (image .entry)) ⌝ }
 {
     if is_resting(to) {
-        bits::put_each(image, CHANGED, 1, path, 1);
+        bits::put_each(image, map::STATE_CHANGED, 1, path, 1);
     }
 }
 
@@ -189,7 +177,7 @@ fn enter(image: &mut [u8], path: u8, from: PathState, to: PathState)
     requires { ⌜ length (now image) ≡ 768 ⌝ }
     ensures { λ _. ⌜ now (image .exit) ≡ entered path from to (now (image .entry)) ⌝ }
 {
-    bits::put_each(image, STATES, 4, path, to.code());
+    bits::put_each(image, map::STATES, 4, path, to.code());
     clear_pending(image, path, from, to);
     flag_change(image, path, to);
 }
@@ -210,7 +198,7 @@ pub fn move_path(image: &mut [u8], lane: u8)
     ensures { λ _. ⌜ now (image .exit) ≡ hardwareMoved (now (image .entry)) lane ⌝ }
 {
     let path = path_of(image, lane);
-    let from = PathState::of(bits::nibble(image, STATES, lane));
+    let from = PathState::of(bits::nibble(image, map::STATES, lane));
     let to = next_state(from, to_deinit(image, path), to_reinit(image, path));
     move_to(image, path, from, to);
 }

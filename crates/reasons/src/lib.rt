@@ -10,10 +10,10 @@ ghost use Rattle.model.specs.Map.{activeSet};
 ghost use Rattle.model.specs.View.{of, stateIn, isUsed, within, pathOf, limitsOf, settingsOf, statesOf, viewOf};
 ghost use Rattle.model.specs.Groups.{firstIn, someIn};
 ghost use Rattle.model.specs.Verdicts.{otherAppSel, misplaced, incomplete, crossing, outOfLimits, unsupported, tooLate, wrongState};
+use map::ACTIVE_SET;
 use model::application::Descriptor;
 use model::lane::Trigger;
 use model::path::PathState;
-use settings::ACTIVE_SET;
 
 // 01h:153: the input EQ limit in bits 3-0, the amplitude codes supported in 7-4.
 const EQUALIZER_AND_AMPLITUDES: usize = 281;
@@ -158,7 +158,7 @@ fn state_of(image: &[u8], group: u8) -> u8
 {
     let first = bits::next_in(group, 0);
     if first < 8 {
-        return bits::nibble(image, paths::STATES, first);
+        return bits::nibble(image, map::STATES, first);
     }
     0
 }

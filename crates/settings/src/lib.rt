@@ -7,12 +7,6 @@ ghost use Rattle.model.specs.Work.{byModule, written, withActive};
 ghost use Rattle.settings.specs.Parts.{withPart};
 use model::lane::Settings;
 
-// Staged Control Set 0, 10h:145 on.
-pub const STAGED_SET_0: usize = 529;
-
-// The active settings, 11h:206 on.
-pub const ACTIVE_SET: usize = 718;
-
 // Where each setting lies in a set, from its base on: DPConfig a byte a lane, the enables a bit a lane, the rest a nibble a lane.
 const CONFIG: usize = 0;
 
@@ -52,10 +46,10 @@ fn put_first(image: &mut [u8], lane: u8, h: Settings)
     requires { ⌜ (length (now image) ≡ 768) × (lane < 8) ⌝ }
     ensures { λ _. ⌜ now (image .exit) ≡ withPart 0 4 h lane (now (image .entry)) ⌝ }
 {
-    bits::put_lane_byte(image, ACTIVE_SET + CONFIG, lane, h.config);
-    bits::put_lane_bit(image, ACTIVE_SET + ADAPTIVE, lane, h.adaptive);
-    bits::put_nibble(image, ACTIVE_SET + EQUALIZER, lane, h.equalizer);
-    bits::put_lane_bit(image, ACTIVE_SET + CDR_TX, lane, h.cdr_tx);
+    bits::put_lane_byte(image, map::ACTIVE_SET + CONFIG, lane, h.config);
+    bits::put_lane_bit(image, map::ACTIVE_SET + ADAPTIVE, lane, h.adaptive);
+    bits::put_nibble(image, map::ACTIVE_SET + EQUALIZER, lane, h.equalizer);
+    bits::put_lane_bit(image, map::ACTIVE_SET + CDR_TX, lane, h.cdr_tx);
 }
 
 // The other four.
@@ -63,10 +57,10 @@ fn put_rest(image: &mut [u8], lane: u8, h: Settings)
     requires { ⌜ (length (now image) ≡ 768) × (lane < 8) ⌝ }
     ensures { λ _. ⌜ now (image .exit) ≡ withPart 4 4 h lane (now (image .entry)) ⌝ }
 {
-    bits::put_lane_bit(image, ACTIVE_SET + CDR_RX, lane, h.cdr_rx);
-    bits::put_nibble(image, ACTIVE_SET + PRE, lane, h.pre);
-    bits::put_nibble(image, ACTIVE_SET + POST, lane, h.post);
-    bits::put_nibble(image, ACTIVE_SET + AMPLITUDE, lane, h.amplitude);
+    bits::put_lane_bit(image, map::ACTIVE_SET + CDR_RX, lane, h.cdr_rx);
+    bits::put_nibble(image, map::ACTIVE_SET + PRE, lane, h.pre);
+    bits::put_nibble(image, map::ACTIVE_SET + POST, lane, h.post);
+    bits::put_nibble(image, map::ACTIVE_SET + AMPLITUDE, lane, h.amplitude);
 }
 
 // Every active setting of a lane replaced.

@@ -9,6 +9,7 @@ ghost use Rattle.model.specs.View.{viewOf, settingsAt, settingsOf, statesOf, ap
 ghost use Rattle.model.specs.Groups.{someIn};
 ghost use Rattle.model.specs.Work.{written};
 ghost use Rattle.model.specs.Sound.{statusTells, share, makePath, agreeOnState, inWholePath, isAtRest, outsidePassing, heldsOf, hasPurpose, rests, sameSettings, holdsCopied, notCopied, restIsWhole, passingFits, groupFits, laneSound, isSound};
+use map::ACTIVE_SET;
 use model::application::Lookup;
 use model::lane::LaneRecord;
 use model::lane::Settings;
@@ -17,17 +18,13 @@ use model::lane::Verdict;
 use model::lane::Working;
 use model::path::PathState;
 use model::status::Status;
-use settings::ACTIVE_SET;
-
-// ConfigStatus, 11h:202 on, a nibble a lane.
-const STATUSES: usize = 714;
 
 // (a) ConfigStatus says in progress exactly where the lane's record does.
 fn status_tells(image: &[u8], w: Working, lane: u8) -> bool
     requires { ⌜ (length (now image) ≡ 768) × (lane < 8) ⌝ }
     ensures { λ r. ⌜ r ≡ statusTells (now (image .entry)) w lane ⌝ }
 {
-    let told = bits::nibble(image, STATUSES, lane) == Status::IN_PROGRESS;
+    let told = bits::nibble(image, map::STATUSES, lane) == Status::IN_PROGRESS;
     let kept = stages::is_in_progress(stages::stage_at(w, lane));
     (told & kept) | (!told & !kept)
 }
@@ -128,10 +125,10 @@ fn agree_on_state(image: &[u8], set: u8, lane: u8) -> bool
     requires { ⌜ (length (now image) ≡ 768) × (lane < 8) ⌝ }
     ensures { λ r. ⌜ r ≡ agreeOnState (statesOf (now (image .entry))) set lane ⌝ }
 {
-    let own = bits::nibble(image, paths::STATES, lane);
+    let own = bits::nibble(image, map::STATES, lane);
     let mut all = true;
     for other in 0..8u8 {
-        let state = bits::nibble(image, paths::STATES, other);
+        let state = bits::nibble(image, map::STATES, other);
         all = all & (!bits::is_in(set, other) | (state == own));
     }
     all
@@ -143,7 +140,7 @@ fn in_whole_path(image: &[u8], lane: u8) -> bool
     ensures { λ r. ⌜ r ≡ inWholePath (viewOf stagedSet0 (now (image .entry))) lane ⌝ }
 {
     let path = paths::path_of(image, lane);
-    let state = bits::nibble(image, paths::STATES, lane);
+    let state = bits::nibble(image, map::STATES, lane);
     let possible = (PathState::DEACTIVATED <= state) & (state <= PathState::INITIALIZED);
     active_path(image, path, lane, path) & (agree_on_state(image, path, lane) & possible)
 }
@@ -153,8 +150,8 @@ fn is_at_rest(image: &[u8], lane: u8) -> bool
     requires { ⌜ (length (now image) ≡ 768) × (lane < 8) ⌝ }
     ensures { λ r. ⌜ r ≡ isAtRest (now (image .entry)) (viewOf stagedSet0 (now (image .entry))) lane ⌝ }
 {
-    let state = bits::nibble(image, paths::STATES, lane);
-    let pending = bits::lane_bit(image, paths::PENDING, lane);
+    let state = bits::nibble(image, map::STATES, lane);
+    let pending = bits::lane_bit(image, map::PENDING, lane);
     (state == PathState::DEACTIVATED) & (pending == 0)
 }
 
@@ -191,7 +188,7 @@ fn rests(image: &[u8], w: Working, group: u8) -> bool
     if first == LaneRecord::COUNT {
         return false;
     }
-    let state = bits::nibble(image, paths::STATES, first);
+    let state = bits::nibble(image, map::STATES, first);
     let resting = paths::is_resting(PathState::of(state));
     let released = !stages::is_release(w, group) | (state == PathState::DEACTIVATED);
     agree_on_state(image, group, first) & (resting & released)

@@ -16,9 +16,6 @@ use model::lane::Verdict;
 use model::lane::Working;
 use model::status::Status;
 
-// ConfigStatus, 11h:202-205, a nibble a lane.
-pub const STATUS: usize = 714;
-
 // Lower byte 2, whose bit 6 is SteppedConfigOnly.
 const CHARACTERISTICS: usize = 2;
 
@@ -108,9 +105,7 @@ fn mark_lane(
     let last = m.verdict;
     let verdict = judge(image, base, kind, group, m.group, last);
     let held = settings::settings_at(image, base, lane);
-    let mut working = m.working;
-    let i = lane as usize;
-    working.lanes[i] = LaneRecord {
+    let own = LaneRecord {
         stage: Stage::InProgress(Progress {
             group,
             held,
@@ -118,6 +113,9 @@ fn mark_lane(
             verdict,
         }),
     };
+    let mut working = m.working;
+    let i = lane as usize;
+    working.lanes[i] = own;
     let marked = bits::with_lane(m.marked, lane, true);
     Marking {
         working,
@@ -153,6 +151,6 @@ pub fn trigger(image: &mut [u8], w: Working, kind: Trigger, base: usize, selecte
         return w;
     }
     let m = mark(image, w, kind, base, selected);
-    bits::put_each(image, STATUS, 4, m.marked, Status::IN_PROGRESS);
+    bits::put_each(image, map::STATUSES, 4, m.marked, Status::IN_PROGRESS);
     m.working
 }

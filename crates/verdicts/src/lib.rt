@@ -7,13 +7,13 @@ ghost use Rattle.model.specs.View.{viewOf};
 ghost use Rattle.model.specs.Groups.{firstIn};
 ghost use Rattle.model.specs.Verdicts.{passed, applyBy, applyVerdict, pathRelease, releaseVerdict, verdictOf};
 ghost use Rattle.model.specs.declared.application.Lookup.the-variants.{Found};
+use map::ACTIVE_SET;
 use model::application::Descriptor;
 use model::application::Lookup;
 use model::lane::Trigger;
 use model::lane::Verdict;
 use model::path::PathState;
 use model::status::Status;
-use settings::ACTIVE_SET;
 
 fn passed(group: u8) -> Verdict
     ensures { λ r. ⌜ r ≡ passed group ⌝ }
@@ -72,7 +72,7 @@ fn path_release(image: &[u8], group: u8, first: u8) -> Verdict
     ensures { λ r. ⌜ r ≡ pathRelease (viewOf activeSet (now (image .entry))) group ⌝ }
 {
     let missing = paths::path_of(image, first) != group;
-    let running = bits::nibble(image, paths::STATES, first) != PathState::DEACTIVATED;
+    let running = bits::nibble(image, map::STATES, first) != PathState::DEACTIVATED;
     if missing {
         return Verdict::Reject(Status::PARTIAL_PATH);
     }

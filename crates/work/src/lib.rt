@@ -21,15 +21,6 @@ use model::lane::Working;
 use model::path::PathState;
 use model::status::Status;
 
-// DPState, 11h:128 on, a nibble a lane.
-const STATES: usize = 640;
-
-// ConfigStatus, 11h:202 on, a nibble a lane.
-const STATUSES: usize = 714;
-
-// DPInitPending, 11h:235, a bit a lane.
-const PENDING: usize = 747;
-
 // What a work step hands back: the lanes to be commissioned, a bit each, and the working state.
 pub struct Worked {
     pub mask: u8,
@@ -106,7 +97,7 @@ fn put_pending(image: &mut [u8], trigger: Trigger, group: u8)
     ensures { λ _. ⌜ now (image .exit) ≡ pendingAfter false trigger group (now (image .entry)) ⌝ }
 {
     match trigger {
-        Trigger::DpInit => bits::put_each(image, PENDING, 1, group, 1),
+        Trigger::DpInit => bits::put_each(image, map::PENDING, 1, group, 1),
         Trigger::Immediate => {}
     }
 }
@@ -117,7 +108,7 @@ fn set_pending(image: &mut [u8], release: bool, trigger: Trigger, group: u8)
     ensures { λ _. ⌜ now (image .exit) ≡ pendingAfter release trigger group (now (image .entry)) ⌝ }
 {
     if release {
-        bits::put_each(image, PENDING, 1, group, 0);
+        bits::put_each(image, map::PENDING, 1, group, 0);
     } else {
         put_pending(image, trigger, group);
     }
@@ -148,7 +139,7 @@ fn immediate_mask(image: &[u8], group: u8) -> u8
     if LaneRecord::COUNT <= first {
         return 0;
     }
-    let state = PathState::of(bits::nibble(image, STATES, first));
+    let state = PathState::of(bits::nibble(image, map::STATES, first));
     if is_commissioned(state) { group } else { 0 }
 }
 
@@ -171,7 +162,7 @@ fn close(image: &mut [u8], w: Working, group: u8, code: u8) -> Working
     requires { ⌜ length (now image) ≡ 768 ⌝ }
     ensures { λ r. ⌜ LeavesState (closed (now (image .entry)) w group code) (now (image .exit)) r ⌝ }
 {
-    bits::put_each(image, STATUSES, 4, group, code);
+    bits::put_each(image, map::STATUSES, 4, group, code);
     freed(w, group)
 }
 

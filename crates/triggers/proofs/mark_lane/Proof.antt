@@ -36,11 +36,11 @@ judge-requires c κs = search needs
 settings-at-requires : tie.Need-settings-at-requires
 settings-at-requires c κs = search needs
 
-mul-t22 : tie.Need-mul-t22
-mul-t22 c = search needs
+mul-own : tie.Need-mul-own
+mul-own c = search needs
 
-element-set-from-working : tie.Need-element-set-from-working
-element-set-from-working c = search needs
+element-set-from-own : tie.Need-element-set-from-own
+element-set-from-own c = search needs
 
 with-lane-requires : tie.Need-with-lane-requires
 with-lane-requires c κs = search needs
@@ -70,7 +70,7 @@ mark-lane-spec =
     returns-2
     judge-requires
     settings-at-requires
-    mul-t22
-    element-set-from-working
+    mul-own
+    element-set-from-own
     with-lane-requires
     returns-3)
