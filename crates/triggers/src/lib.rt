@@ -27,16 +27,6 @@ pub struct Marking {
     pub verdict: Verdict,
 }
 
-// Whether a stage is in progress.
-pub fn is_in_progress(stage: Stage) -> bool
-    ensures { λ r. ⌜ r ≡ isInProgress stage ⌝ }
-{
-    match stage {
-        Stage::Idle => false,
-        Stage::InProgress(_) => true,
-    }
-}
-
 // The lanes in progress.
 pub fn busy_lanes(w: Working) -> u8
     ensures { λ r. ⌜ r ≡ maskOf 8 (λ l. isInProgress (stageAt w l)) ⌝ }
@@ -46,7 +36,7 @@ pub fn busy_lanes(w: Working) -> u8
         let i = lane as usize;
         let own = w.lanes[i];
         let stage = own.stage;
-        let yes = is_in_progress(stage);
+        let yes = stages::is_in_progress(stage);
         busy = bits::with_lane(busy, lane, yes);
     }
     busy

@@ -5,7 +5,7 @@ ghost use Prim.Native.Nat.{_<_};
 ghost use lib.ListN.{length};
 ghost use Rattle.model.specs.Lanes.{stageAt, heldIn, withStage, withVerdict, freed, advanced};
 ghost use Rattle.model.specs.PathStates.{commissioned};
-ghost use Rattle.model.specs.Work.{early, written, withActive, isRelease, pendingAfter, commissionMask, closed, closedPass, copied, workedBy, workedOn, workStep};
+ghost use Rattle.model.specs.Work.{early, written, withActive, pendingAfter, commissionMask, closed, closedPass, copied, workedBy, workedOn, workStep};
 ghost use Rattle.model.specs.declared.lane.Trigger.the-variants.{Immediate};
 ghost use Rattle.model.specs.declared.lane.Verdict.the-variants.{Pass};
 ghost use Rattle.work.specs.Leaves.{given, LeavesState, Leaves};
@@ -77,18 +77,6 @@ fn advanced(w: Working, group: u8, n: u8) -> Working
         }
     }
     next
-}
-
-// A release: no lane of the group holds an AppSel.
-fn is_release(w: Working, group: u8) -> bool
-    ensures { λ r. ⌜ r ≡ isRelease w group ⌝ }
-{
-    let mut used = false;
-    for lane in 0..LaneRecord::COUNT {
-        let held = held::settings_of(w, lane);
-        used = used | (bits::is_in(group, lane) & settings::is_used(held));
-    }
-    !used
 }
 
 // DPInitPending as a closing pass that is no release leaves it: ApplyDPInit sets it, ApplyImmediate leaves it.
@@ -171,7 +159,7 @@ fn close_pass(image: &mut [u8], w: Working, group: u8, trigger: Trigger) -> Work
     requires { ⌜ length (now image) ≡ 768 ⌝ }
     ensures { λ r. ⌜ Leaves (closedPass early (given (now (image .entry)) w) group trigger) (now (image .exit)) r ⌝ }
 {
-    let release = is_release(w, group);
+    let release = stages::is_release(w, group);
     let mask = commission_mask(image, release, trigger, group);
     set_pending(image, release, trigger, group);
     let working = close(image, w, group, Status::SUCCESS);
