@@ -1,0 +1,15 @@
+-- `registers::is_flat` meets its contract. Assumes nothing.
+use borrow.Author.Needs.{needs}
+use Rattle.model.specs.Refusals.{isFlat}
+use Rattle.registers.proofs.is_flat.Statement.{statement}
+use Rattle.registers.proofs.is_flat.Tie as tie
+
+get-requires : tie.Need-get-requires
+get-requires c κs = search needs
+
+returns : tie.Need-returns
+unfolding isFlat
+returns c = rw (c .get .ensures)
+
+pub is-flat-spec : {M : Type 1} → statement M
+is-flat-spec = tie.close (tie.spec get-requires returns)

@@ -1,0 +1,122 @@
+// The public calls: each answers every input, in the order 1, 2, 3, 4, 8, 5, 7, 6, and asks for soundness once.
+ghost use mathlib.Core.Path.{_≡_};
+ghost use mathlib.Core.List.{[]};
+ghost use lib.ListN.{length};
+ghost use Rattle.model.specs.Outcome.{Leaves, state, startOutcome, callOutcome};
+ghost use Rattle.model.specs.Refusals.{firstOf, isFlat, entryRefusals};
+ghost use Rattle.model.specs.declared.event.Call.the-variants.{Write, Read, Work, Hardware, Condition, Sample};
+ghost use Rattle.steps.specs.Asked.{asked, carrying};
+use bits::Place;
+use model::answer::Answer;
+use model::answer::Left;
+use model::lane::Working;
+
+// Whether the memory is flat: MemoryModel, lower 2.7.
+fn is_flat(image: &[u8]) -> bool
+    requires { ⌜ length (now image) ≡ 768 ⌝ }
+    ensures { λ r. ⌜ r ≡ isFlat (now (image .entry)) ⌝ }
+{
+    let model = Place {
+        byte: 2,
+        shift: 7,
+        width: 1,
+    };
+    bits::get(image, model) == 1
+}
+
+// What is asked once of every call but start: the refusals 1, 2 and 3.
+pub fn entry(image: &[u8], w: Working) -> Answer
+    ensures { λ r. ⌜ r ≡ firstOf (entryRefusals (state (now (image .entry)) w)) ⌝ }
+{
+    if image.len() != map::IMAGE_LENGTH {
+        return Answer::WrongLength;
+    }
+    if is_flat(image) {
+        return Answer::FlatMemory;
+    }
+    if !soundness::is_sound(image, w) {
+        return Answer::Unsound;
+    }
+    Answer::Done
+}
+
+// Start with an image: what stays of it, and all lanes idle.
+pub fn start(image: &mut [u8]) -> Left
+    ensures { λ r. ⌜ Leaves (startOutcome (now (image .entry))) r (now (image .exit)) [] ⌝ }
+{
+    let idle = Working::idle();
+    if image.len() != map::IMAGE_LENGTH {
+        return steps::reply(Answer::WrongLength, idle);
+    }
+    if is_flat(image) {
+        return steps::reply(Answer::FlatMemory, idle);
+    }
+    startup::reset(image);
+    steps::reply(Answer::Done, idle)
+}
+
+// A host write of count of the bytes that are given.
+pub fn write(image: &mut [u8], w: Working, address: u8, count: u8, bytes: [u8; 8]) -> Left
+    ensures { λ r. ⌜ Leaves (callOutcome (state (now (image .entry)) w) [] (carrying bytes (Write address count))) r (now (image .exit)) [] ⌝ }
+{
+    let answer = entry(image, w);
+    if answer.number() != 0 {
+        return steps::reply(answer, w);
+    }
+    steps::write(image, w, address, count, bytes)
+}
+
+// A host read of count bytes into the front of a buffer.
+pub fn read(image: &mut [u8], w: Working, address: u8, count: u8, buffer: &mut [u8]) -> Left
+    ensures { λ r. ⌜ Leaves (callOutcome (state (now (image .entry)) w) (now (buffer .entry)) (asked (Read address count))) r (now (image .exit)) (now (buffer .exit)) ⌝ }
+{
+    let answer = entry(image, w);
+    if answer.number() != 0 {
+        return steps::reply(answer, w);
+    }
+    steps::read(image, w, address, count, buffer)
+}
+
+// A work step on a lane.
+pub fn work(image: &mut [u8], w: Working, lane: u8) -> Left
+    ensures { λ r. ⌜ Leaves (callOutcome (state (now (image .entry)) w) [] (asked (Work lane))) r (now (image .exit)) [] ⌝ }
+{
+    let answer = entry(image, w);
+    if answer.number() != 0 {
+        return steps::reply(answer, w);
+    }
+    steps::work(image, w, lane)
+}
+
+// A hardware event on the path of a lane.
+pub fn hardware(image: &mut [u8], w: Working, lane: u8) -> Left
+    ensures { λ r. ⌜ Leaves (callOutcome (state (now (image .entry)) w) [] (asked (Hardware lane))) r (now (image .exit)) [] ⌝ }
+{
+    let answer = entry(image, w);
+    if answer.number() != 0 {
+        return steps::reply(answer, w);
+    }
+    steps::hardware(image, w, lane)
+}
+
+// A condition that sets bits of a flag byte.
+pub fn condition(image: &mut [u8], w: Working, flag: u8, mask: u8) -> Left
+    ensures { λ r. ⌜ Leaves (callOutcome (state (now (image .entry)) w) [] (asked (Condition flag mask))) r (now (image .exit)) [] ⌝ }
+{
+    let answer = entry(image, w);
+    if answer.number() != 0 {
+        return steps::reply(answer, w);
+    }
+    steps::condition(image, w, flag, mask)
+}
+
+// A sample of a lane's received power.
+pub fn sample(image: &mut [u8], w: Working, lane: u8, power: u16) -> Left
+    ensures { λ r. ⌜ Leaves (callOutcome (state (now (image .entry)) w) [] (asked (Sample lane power))) r (now (image .exit)) [] ⌝ }
+{
+    let answer = entry(image, w);
+    if answer.number() != 0 {
+        return steps::reply(answer, w);
+    }
+    steps::sample(image, w, lane, power)
+}
