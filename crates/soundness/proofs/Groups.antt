@@ -1,12 +1,11 @@
 -- The lanes of a group: its first, and those from the next one on. Assumes nothing.
-use mathlib.Core.Path.{_≡_, refl, ap, ap₂, sym, _∙_}
+use mathlib.Core.Path.{_≡_, ap, ap₂, sym, _∙_}
 use mathlib.Core.Bool.{Bool, true, false, not, _&&_, _||_}
 use Prim.Native.Nat.{ℕ, _<_, _≤_}
 use native.Mathlib.Omega.{arith}
 use lib.Dec.{eqb, leb}
 use borrow.Author.Tests.{leb-true, not-false}
 use Rattle.bits.specs.Choice.{pick, both, either, implies}
-use Rattle.bits.specs.Loop.{anyBelow}
 use Rattle.bits.specs.Place.{get}
 use Rattle.bits.specs.Sets.{has, maskOf, nextIn}
 use Rattle.bits.proofs.Tests.{both-l, both-r}

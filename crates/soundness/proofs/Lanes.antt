@@ -10,7 +10,7 @@ use Rattle.bits.specs.Sets.{has}
 use Rattle.bits.proofs.Loops.{tab-at, tab-past, all-ext}
 use Rattle.model.specs.Map.{Image, activeSet, stagedSet0, stateAt, pendingAt}
 use Rattle.model.specs.Lanes.{stageAt, heldIn}
-use Rattle.model.specs.View.{viewOf, settingsAt, settingsOf, statesOf, stateIn, of}
+use Rattle.model.specs.View.{viewOf, settingsAt, statesOf, stateIn, of}
 use Rattle.model.specs.Groups.{everyIn}
 use Rattle.model.specs.Work.{written}
 use Rattle.model.specs.Sound.{agreeOnState, isAtRest, heldsOf, sameSettings, holdsCopied}

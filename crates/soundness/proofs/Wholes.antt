@@ -1,5 +1,5 @@
 -- Lanes that share an AppSel and a DataPathID, and the whole path that they make. Assumes nothing.
-use mathlib.Core.Path.{_≡_, refl, ap, ap₂, sym, _∙_}
+use mathlib.Core.Path.{_≡_, ap, ap₂, _∙_}
 use mathlib.Core.Bool.{Bool, true, false, not, _&&_}
 use mathlib.Core.List.{List}
 use Prim.Native.Nat.{ℕ, _+_, _<_}
@@ -13,7 +13,7 @@ use Rattle.bits.proofs.Loops.{all-ext}
 use Rattle.bits.proofs.Masks.{has-mask}
 use Rattle.model.specs.Map.{Image, activeSet, stagedSet0, stateAt}
 use Rattle.model.specs.Lanes.{stageAt, heldIn, idleWorking}
-use Rattle.model.specs.View.{viewOf, settingsAt, settingsOf, statesOf, applicationsOf, applicationIn, of, appSel, pathId, isUsed, samePath, pathOf, within, fills}
+use Rattle.model.specs.View.{viewOf, settingsOf, statesOf, applicationsOf, applicationIn, of, appSel, pathId, isUsed, samePath, pathOf, within, fills}
 use Rattle.model.specs.Sound.{share, makePath, agreeOnState, inWholePath, isAtRest, outsidePassing, heldsOf}
 use Rattle.model.specs.declared.application.Lookup.{Lookup}
 use Rattle.model.specs.declared.lane.Settings.{Settings}

@@ -3,7 +3,7 @@ use mathlib.Core.Path.{_≡_, refl, ap₂, _∙_}
 use mathlib.Core.Bool.{Bool, true, false, not, _&&_, _||_}
 use Prim.Native.Nat.{ℕ, _+_}
 use native.Mathlib.Numerals.{add-one}
-use Rattle.bits.specs.Choice.{both, implies}
+use Rattle.bits.specs.Choice.{implies}
 use Rattle.bits.specs.Loop.{allBelow}
 use Rattle.bits.specs.Sets.{has}
 use Rattle.paths.proofs.Turns.{and-both}

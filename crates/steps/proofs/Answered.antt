@@ -1,11 +1,9 @@
 -- The answer to each kind of event, from the code's tests. Assumes nothing.
-use mathlib.Core.Path.{_≡_, refl, ap, ap₂, _∙_}
+use mathlib.Core.Path.{_≡_, ap, ap₂, _∙_}
 use mathlib.Core.Bool.{Bool, true, false, not, _||_}
 use Prim.Native.Nat.{ℕ, _≤_, _<_}
-use lib.Dec.{ltb}
 use borrow.Author.Tests.{lt-ltb, le-ltb}
-use Rattle.bits.specs.Choice.{both, either}
-use Rattle.bits.specs.Loop.{anyBelow}
+use Rattle.bits.specs.Choice.{either}
 use Rattle.bits.specs.Sets.{has, maskOf}
 use Rattle.bits.proofs.Loops.{any-ext}
 use Rattle.bits.proofs.Masks.{has-mask}

@@ -6,7 +6,6 @@ use Prim.Native.Nat.{ℕ, _≤_}
 use native.Mathlib.Omega.{arith}
 use lib.Dec.{ltb}
 use lib.ListN.{length, take, length-take}
-use Rattle.bits.specs.Choice.{pick}
 use Rattle.bits.proofs.Tests.{split, pick-true, pick-false}
 use Rattle.model.specs.Map.{Image}
 use Rattle.model.specs.Answers.{isDone}

@@ -17,7 +17,11 @@ same-length : tie.Need-same-length
 same-length c = search needs
 
 returns : tie.Need-returns
-returns c = call-refused _ _ _ _ _ (c .before .before .before .entry .ensures) (not-done _ _ _ (c .before .before .before .entry .ensures) (c .before .before .number .ensures) (c .before .if1 .taken)) (c .reply .ensures)
+returns c =
+    call-refused _ _ _ _ _
+    (c .before .before .before .entry .ensures)
+    (not-done _ _ _ (c .before .before .before .entry .ensures) (c .before .before .number .ensures) (c .before .if1 .taken))
+    (c .reply .ensures)
 
 condition-requires : tie.Need-condition-requires
 condition-requires c κs = entered-length _ (is-done _ _ _ (c .before .before .before .entry .ensures) (c .before .before .number .ensures) (c .before .if1 .left))
@@ -26,7 +30,10 @@ same-length-2 : tie.Need-same-length-2
 same-length-2 c = search needs
 
 returns-2 : tie.Need-returns-2
-returns-2 c = call-step _ _ _ _ _ _ (is-done _ _ _ (c .before .before .before .before .before .before .entry .ensures) (c .before .before .before .before .before .number .ensures) (c .before .before .before .before .if1 .left)) (c .before .before .condition .ensures)
+returns-2 c =
+    call-step _ _ _ _ _ _
+    (is-done _ _ _ (c .before .before .before .before .before .before .entry .ensures) (c .before .before .before .before .before .number .ensures) (c .before .before .before .before .if1 .left))
+    (c .before .before .condition .ensures)
 
 pub condition-spec : {M : Type 1} → statement M
 condition-spec =

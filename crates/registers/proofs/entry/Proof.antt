@@ -19,10 +19,18 @@ is-sound-requires : tie.Need-is-sound-requires
 is-sound-requires c κs = search needs
 
 returns-3 : tie.Need-returns-3
-returns-3 c = entry-unsound _ (c .before .before .before .before .if1 .left) (sym (c .before .before .before .is-flat .ensures) ∙ c .before .before .if2 .left) (sym (c .before .is-sound .ensures) ∙ not-true _ (c .if3 .taken))
+returns-3 c =
+    entry-unsound _
+    (c .before .before .before .before .if1 .left)
+    (sym (c .before .before .before .is-flat .ensures) ∙ c .before .before .if2 .left)
+    (sym (c .before .is-sound .ensures) ∙ not-true _ (c .if3 .taken))
 
 returns-4 : tie.Need-returns-4
-returns-4 c = entry-good _ (c .before .before .before .before .if1 .left) (sym (c .before .before .before .is-flat .ensures) ∙ c .before .before .if2 .left) (sym (c .before .is-sound .ensures) ∙ not-false _ (c .if3 .left))
+returns-4 c =
+    entry-good _
+    (c .before .before .before .before .if1 .left)
+    (sym (c .before .before .before .is-flat .ensures) ∙ c .before .before .if2 .left)
+    (sym (c .before .is-sound .ensures) ∙ not-false _ (c .if3 .left))
 
 pub entry-spec : {M : Type 1} → statement M
 entry-spec =

@@ -28,7 +28,11 @@ same-length c = search needs
 
 returns-2 : tie.Need-returns-2
 unfolding isDone
-returns-2 c = start-refused _ FlatMemory _ (start-flat _ (c .before .before .before .before .if1 .left) (sym (c .before .before .is-flat .ensures) ∙ c .before .if2 .taken)) refl (rw (c .before .before .before .before .before .idle .ensures) at (c .reply2 .ensures))
+returns-2 c =
+    start-refused _ FlatMemory _
+    (start-flat _ (c .before .before .before .before .if1 .left) (sym (c .before .before .is-flat .ensures) ∙ c .before .if2 .taken))
+    refl
+    (rw (c .before .before .before .before .before .idle .ensures) at (c .reply2 .ensures))
 
 reset-requires : tie.Need-reset-requires
 reset-requires c κs = search needs
@@ -40,7 +44,11 @@ same-length-2 : tie.Need-same-length-2
 same-length-2 c = search needs
 
 returns-3 : tie.Need-returns-3
-returns-3 c = start-done _ _ _ (start-good _ (c .before .before .before .before .before .before .before .before .if1 .left) (sym (c .before .before .before .before .before .before .is-flat .ensures) ∙ c .before .before .before .before .before .if2 .left)) (c .before .before .before .reset .ensures) (rw (c .before .before .before .before .before .before .before .before .before .idle .ensures) at (c .reply3 .ensures))
+returns-3 c =
+    start-done _ _ _
+    (start-good _ (c .before .before .before .before .before .before .before .before .if1 .left) (sym (c .before .before .before .before .before .before .is-flat .ensures) ∙ c .before .before .before .before .before .if2 .left))
+    (c .before .before .before .reset .ensures)
+    (rw (c .before .before .before .before .before .before .before .before .before .idle .ensures) at (c .reply3 .ensures))
 
 pub start-spec : {M : Type 1} → statement M
 start-spec =

@@ -24,7 +24,11 @@ is-whole-requires c κs = (search needs, rw (c .before .before .app-sel .ensures
 
 returns : tie.Need-returns
 returns c = let h = c .before .before .before .before .held-at .ensures ∙ sym (held-of _ _ (c .before .before .before .before .before .before .pre .1)) in
-    path-by _ _ _ _ _ _ _ _ _ (c .before .before .before .app-sel .ensures ∙ ap appSel h) (c .before .before .path-id .ensures ∙ ap pathId h) (c .before .share-held .ensures) (c .is-whole .ensures)
+    path-by _ _ _ _ _ _ _ _ _
+    (c .before .before .before .app-sel .ensures ∙ ap appSel h)
+    (c .before .before .path-id .ensures ∙ ap pathId h)
+    (c .before .share-held .ensures)
+    (c .is-whole .ensures)
 
 pub held-path-spec : {M : Type 1} → statement M
 held-path-spec = tie.close (tie.spec held-at-requires app-sel-requires path-id-requires share-held-requires is-whole-requires returns)

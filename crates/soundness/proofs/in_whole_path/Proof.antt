@@ -18,7 +18,12 @@ agree-on-state-requires : tie.Need-agree-on-state-requires
 agree-on-state-requires c κs = search needs
 
 returns : tie.Need-returns
-returns c = in-whole-by _ _ _ _ _ _ (omega arith) (c .before .before .before .path-of .ensures) (c .before .before .nibble .ensures) (c .before .active-path .ensures) (c .agree-on-state .ensures)
+returns c =
+    in-whole-by _ _ _ _ _ _ (omega arith)
+    (c .before .before .before .path-of .ensures)
+    (c .before .before .nibble .ensures)
+    (c .before .active-path .ensures)
+    (c .agree-on-state .ensures)
 
 pub in-whole-path-spec : {M : Type 1} → statement M
 in-whole-path-spec =

@@ -1,9 +1,5 @@
 -- `soundness::is_at_rest` meets its contract. Assumes nothing.
 use borrow.Author.Needs.{needs}
-use Rattle.model.specs.View.{viewOf}
-use Rattle.model.specs.Sound.{isAtRest}
-use Rattle.paths.proofs.Turns.{and-both}
-use Rattle.soundness.proofs.Lanes.{states-of}
 use native.Mathlib.Omega.{arith}
 use Rattle.soundness.proofs.Lanes.{rest-by}
 use Rattle.soundness.proofs.is_at_rest.Statement.{statement}

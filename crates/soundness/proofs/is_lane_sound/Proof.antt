@@ -23,7 +23,14 @@ group-fits-requires : tie.Need-group-fits-requires
 group-fits-requires c κs = search needs
 
 returns : tie.Need-returns
-returns c = lane-sound-by _ _ _ _ _ _ _ _ _ (c .before .before .before .before .before .stage-at .ensures) (c .before .before .before .before .status-tells .ensures) (c .before .before .before .stage-fits .ensures) (c .before .before .is-passing .ensures) (c .before .outside-passing .ensures) (c .group-fits .ensures)
+returns c =
+    lane-sound-by _ _ _ _ _ _ _ _ _
+    (c .before .before .before .before .before .stage-at .ensures)
+    (c .before .before .before .before .status-tells .ensures)
+    (c .before .before .before .stage-fits .ensures)
+    (c .before .before .is-passing .ensures)
+    (c .before .outside-passing .ensures)
+    (c .group-fits .ensures)
 
 pub is-lane-sound-spec : {M : Type 1} → statement M
 is-lane-sound-spec =

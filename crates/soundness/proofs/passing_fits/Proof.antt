@@ -25,7 +25,10 @@ enum-told c = search needs
 
 returns : tie.Need-returns
 unfolding passingFits
-returns c = rw (c .before .before .before .before .before .verdict .given .1, c .before .before .before .has-purpose .ensures, c .before .before .rests .ensures, c .before .holds-copied .ensures, c .rest-is-whole .ensures) (four-by _ _ _ _)
+returns c =
+    rw
+    (c .before .before .before .before .before .verdict .given .1, c .before .before .before .has-purpose .ensures, c .before .before .rests .ensures, c .before .holds-copied .ensures, c .rest-is-whole .ensures)
+    (four-by _ _ _ _)
 
 returns-2 : tie.Need-returns-2
 unfolding passingFits

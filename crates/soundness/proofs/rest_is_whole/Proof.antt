@@ -22,7 +22,10 @@ active-path-requires : tie.Need-active-path-requires
 active-path-requires c κs = (search needs, rw (c .next-in .ensures) (rest-next _ _ _ (rw (c .before .before .before .not-copied .ensures) at (sym (c .before .before .some-used .ensures) ∙ not-false _ (c .before .if1 .left))) .1))
 
 returns-2 : tie.Need-returns-2
-returns-2 c = rest-path _ _ _ _ (rw (c .before .before .before .before .not-copied .ensures) at (sym (c .before .before .before .some-used .ensures) ∙ not-false _ (c .before .before .if1 .left))) (rw (c .before .before .before .before .not-copied .ensures, c .before .next-in .ensures) at (c .active-path .ensures))
+returns-2 c =
+    rest-path _ _ _ _
+    (rw (c .before .before .before .before .not-copied .ensures) at (sym (c .before .before .before .some-used .ensures) ∙ not-false _ (c .before .before .if1 .left)))
+    (rw (c .before .before .before .before .not-copied .ensures, c .before .next-in .ensures) at (c .active-path .ensures))
 
 pub rest-is-whole-spec : {M : Type 1} → statement M
 rest-is-whole-spec =

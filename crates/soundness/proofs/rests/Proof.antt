@@ -27,7 +27,14 @@ agree-on-state-requires : tie.Need-agree-on-state-requires
 agree-on-state-requires c κs = (search needs, (first-below _ _ (c .before .before .before .before .before .next-in .ensures) (c .before .before .before .before .if1 .left)))
 
 returns-2 : tie.Need-returns-2
-returns-2 c = rests-by _ _ _ _ _ _ _ _ (first-below _ _ (c .before .before .before .before .before .before .next-in .ensures) (c .before .before .before .before .before .if1 .left)) (c .before .before .before .before .before .before .next-in .ensures) (c .before .before .before .before .nibble .ensures) (c .agree-on-state .ensures) (rw (c .before .before .before .of .ensures) at (c .before .before .is-resting .ensures)) (c .before .is-release .ensures)
+returns-2 c =
+    rests-by _ _ _ _ _ _ _ _
+    (first-below _ _ (c .before .before .before .before .before .before .next-in .ensures) (c .before .before .before .before .before .if1 .left))
+    (c .before .before .before .before .before .before .next-in .ensures)
+    (c .before .before .before .before .nibble .ensures)
+    (c .agree-on-state .ensures)
+    (rw (c .before .before .before .of .ensures) at (c .before .before .is-resting .ensures))
+    (c .before .is-release .ensures)
 
 pub rests-spec : {M : Type 1} → statement M
 rests-spec =

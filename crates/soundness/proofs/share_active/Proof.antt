@@ -51,7 +51,11 @@ loop-again : tie.Need-loop-again Inv-loop μ-loop
 loop-again c = (search needs, every-turn _ _ _ _ _ _ (c .before .before .before .before .loop .inv .1) (c .is-in .ensures) (rw (c .before .before .app-at2 .ensures, c .before .id-at2 .ensures) (and-both _ _)))
 
 returns : tie.Need-returns Inv-loop μ-loop
-returns c = let e : c .before .loop .other ≡ 8 = omega arith in rw (rw e at (c .before .loop .inv .1)) (share-active-by _ _ _ _ _ (c .before .before .before .app-at .ensures) (c .before .before .id-at .ensures))
+returns c =
+    let e : c .before .loop .other ≡ 8 = omega arith in
+    rw
+    (rw e at (c .before .loop .inv .1))
+    (share-active-by _ _ _ _ _ (c .before .before .before .app-at .ensures) (c .before .before .id-at .ensures))
 
 pub share-active-spec : {M : Type 1} → statement M
 share-active-spec =

@@ -58,7 +58,9 @@ loop-again c = (search needs, every-turn _ _ _ _ _ _ (c .before .before .before 
 returns : tie.Need-returns Inv-loop μ-loop
 returns c = let e : c .before .loop .other ≡ 8 = omega arith in
     let h = c .before .before .before .before .held-at .ensures in
-    rw (rw e at (c .before .loop .inv .1)) (share-held-by _ _ _ _ _ (omega arith) (c .before .before .before .app-sel .ensures ∙ ap appSel h) (c .before .before .path-id .ensures ∙ ap pathId h))
+    rw
+    (rw e at (c .before .loop .inv .1))
+    (share-held-by _ _ _ _ _ (omega arith) (c .before .before .before .app-sel .ensures ∙ ap appSel h) (c .before .before .path-id .ensures ∙ ap pathId h))
 
 pub share-held-spec : {M : Type 1} → statement M
 share-held-spec =

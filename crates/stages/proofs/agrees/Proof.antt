@@ -1,6 +1,6 @@
 -- `stages::agrees` meets its contract. Assumes nothing.
 use borrow.Author.Needs.{needs}
-use mathlib.Core.Path.{_≡_, ap, _∙_}
+use mathlib.Core.Path.{ap, _∙_}
 use Rattle.bits.specs.Choice.{both}
 use Rattle.model.specs.Sound.{agrees}
 use Rattle.paths.proofs.Turns.{and-both}

@@ -1,6 +1,5 @@
 -- `stages::same_trigger` meets its contract. Assumes nothing.
 use borrow.Author.Needs.{needs}
-use Rattle.model.specs.Sound.{sameTrigger}
 use mathlib.Core.Bool.{not}
 use mathlib.Core.Path.{ap, _∙_}
 use Rattle.stages.proofs.Fits.{not-init}

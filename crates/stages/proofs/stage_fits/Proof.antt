@@ -31,7 +31,10 @@ returns c = rw (c .enum-told .given .1)
 
 returns-2 : tie.Need-returns-2
 unfolding stageFits
-returns-2 c = rw (c .before .before .before .before .before .before .stage .given .1, c .before .before .before .is-in .ensures, c .before .before .all-agree .ensures, c .before .settings-fit .ensures, c .verdict-fits .ensures) (and-both _ _ ∙ ap₂ both (and-both _ _) (and-both _ _))
+returns-2 c =
+    rw
+    (c .before .before .before .before .before .before .stage .given .1, c .before .before .before .is-in .ensures, c .before .before .all-agree .ensures, c .before .settings-fit .ensures, c .verdict-fits .ensures)
+    (and-both _ _ ∙ ap₂ both (and-both _ _) (and-both _ _))
 
 pub stage-fits-spec : {M : Type 1} → statement M
 stage-fits-spec =

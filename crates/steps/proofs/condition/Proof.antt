@@ -19,7 +19,10 @@ reply-requires c κs = search needs
 
 returns : tie.Need-returns
 unfolding isDone
-returns c = refused-leaves _ _ _ _ NoSuchPlace _ (condition-nowhere _ _ _ _ (sym (c .before .before .is-condition-flag .ensures) ∙ not-true _ (c .before .if1 .taken))) refl (c .reply .ensures)
+returns c =
+    refused-leaves _ _ _ _ NoSuchPlace _
+    (condition-nowhere _ _ _ _ (sym (c .before .before .is-condition-flag .ensures) ∙ not-true _ (c .before .if1 .taken)))
+    refl (c .reply .ensures)
 
 condition-requires : tie.Need-condition-requires
 condition-requires c κs = (search needs, condition-upper _ (sym (c .before .before .is-condition-flag .ensures) ∙ not-false _ (c .before .if1 .left)))
@@ -35,7 +38,9 @@ same-length c = search needs
 
 returns-2 : tie.Need-returns-2
 unfolding carried
-returns-2 c = image-leaves _ _ _ _ _ _ _ _ (condition-done _ _ _ _ (sym (c .before .before .before .before .before .before .before .before .before .before .is-condition-flag .ensures) ∙ not-false _ (c .before .before .before .before .before .before .before .before .before .if1 .left))) refl (c .before .before .before .before .before .before .before .condition .ensures) (c .before .before .before .settle .ensures) (c .reply2 .ensures)
+returns-2 c =
+    let known = sym (c .before .before .before .before .before .before .before .before .before .before .is-condition-flag .ensures) ∙ not-false _ (c .before .before .before .before .before .before .before .before .before .if1 .left) in
+    image-leaves _ _ _ _ _ _ _ _ (condition-done _ _ _ _ known) refl (c .before .before .before .before .before .before .before .condition .ensures) (c .before .before .before .settle .ensures) (c .reply2 .ensures)
 
 pub condition-spec : {M : Type 1} → statement M
 condition-spec =

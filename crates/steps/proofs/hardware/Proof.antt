@@ -28,7 +28,10 @@ same-length c = search needs
 
 returns-2 : tie.Need-returns-2
 unfolding isDone
-returns-2 c = refused-leaves _ _ _ _ Busy _ (hardware-busy _ _ _ (c .before .before .before .before .if1 .left) (sym (c .before .before .is-busy .ensures) ∙ c .before .if2 .taken)) refl (c .reply2 .ensures)
+returns-2 c =
+    refused-leaves _ _ _ _ Busy _
+    (hardware-busy _ _ _ (c .before .before .before .before .if1 .left) (sym (c .before .before .is-busy .ensures) ∙ c .before .if2 .taken))
+    refl (c .reply2 .ensures)
 
 used-at-requires : tie.Need-used-at-requires
 used-at-requires c κs = search needs
@@ -41,7 +44,11 @@ same-length-2 c = search needs
 
 returns-3 : tie.Need-returns-3
 unfolding isDone
-returns-3 c = refused-leaves _ _ _ _ NothingToDo _ (hardware-unused _ _ _ (c .before .before .before .before .before .before .before .if1 .left) (sym (c .before .before .before .before .before .is-busy .ensures) ∙ c .before .before .before .before .if2 .left) (sym (c .before .before .used-at .ensures) ∙ not-true _ (c .before .if3 .taken))) refl (c .reply3 .ensures)
+returns-3 c =
+    let lane = c .before .before .before .before .before .before .before .if1 .left in
+    let free = sym (c .before .before .before .before .before .is-busy .ensures) ∙ c .before .before .before .before .if2 .left in
+    let unused = sym (c .before .before .used-at .ensures) ∙ not-true _ (c .before .if3 .taken) in
+    refused-leaves _ _ _ _ NothingToDo _ (hardware-unused _ _ _ lane free unused) refl (c .reply3 .ensures)
 
 move-path-requires : tie.Need-move-path-requires
 move-path-requires c κs = search needs
@@ -57,7 +64,11 @@ same-length-3 c = search needs
 
 returns-4 : tie.Need-returns-4
 unfolding carried
-returns-4 c = image-leaves _ _ _ _ _ _ _ _ (hardware-done _ _ _ (c .before .before .before .before .before .before .before .before .before .before .before .before .before .before .before .if1 .left) (sym (c .before .before .before .before .before .before .before .before .before .before .before .before .before .is-busy .ensures) ∙ c .before .before .before .before .before .before .before .before .before .before .before .before .if2 .left) (sym (c .before .before .before .before .before .before .before .before .before .before .used-at .ensures) ∙ not-false _ (c .before .before .before .before .before .before .before .before .before .if3 .left))) refl (c .before .before .before .before .before .before .before .move-path .ensures) (c .before .before .before .settle .ensures) (c .reply4 .ensures)
+returns-4 c =
+    let lane = c .before .before .before .before .before .before .before .before .before .before .before .before .before .before .before .if1 .left in
+    let free = sym (c .before .before .before .before .before .before .before .before .before .before .before .before .before .is-busy .ensures) ∙ c .before .before .before .before .before .before .before .before .before .before .before .before .if2 .left in
+    let used = sym (c .before .before .before .before .before .before .before .before .before .before .used-at .ensures) ∙ not-false _ (c .before .before .before .before .before .before .before .before .before .if3 .left) in
+    image-leaves _ _ _ _ _ _ _ _ (hardware-done _ _ _ lane free used) refl (c .before .before .before .before .before .before .before .move-path .ensures) (c .before .before .before .settle .ensures) (c .reply4 .ensures)
 
 pub hardware-spec : {M : Type 1} → statement M
 hardware-spec =

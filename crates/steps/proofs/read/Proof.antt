@@ -25,7 +25,10 @@ reply-requires-2 c κs = search needs
 
 returns-2 : tie.Need-returns-2
 unfolding isDone
-returns-2 c = refused-leaves _ _ _ _ ShortBuffer _ (read-short _ _ _ _ (sym (c .before .before .before .bad-access .ensures) ∙ c .before .before .if1 .left) (c .before .if2 .taken)) refl (c .reply2 .ensures)
+returns-2 c =
+    refused-leaves _ _ _ _ ShortBuffer _
+    (read-short _ _ _ _ (sym (c .before .before .before .bad-access .ensures) ∙ c .before .before .if1 .left) (c .before .if2 .taken))
+    refl (c .reply2 .ensures)
 
 read-requires : tie.Need-read-requires
 read-requires c κs = let g = good-access 128 _ _ (sym (c .before .before .before .before .bad-access .ensures) ∙ c .before .before .before .if1 .left) in search needs
@@ -44,9 +47,12 @@ same-length-2 c = search needs
 
 returns-3 : tie.Need-returns-3
 unfolding carried readAt
-returns-3 c = let w = c .before .before .before .before .before .before .before .before .before .read .ensures in
-    done-leaves _ _ _ _ _ _ _ _ _ (read-done _ _ _ _ (sym (c .before .before .before .before .before .before .before .before .before .before .before .before .before .before .bad-access .ensures) ∙ c .before .before .before .before .before .before .before .before .before .before .before .before .before .if1 .left) (c .before .before .before .before .before .before .before .before .before .before .before .before .if2 .left))
-    refl (ap (λ t. t .answer) (c .reply3 .ensures)) (w .image) (c .before .before .before .settle .ensures) (ap (λ t. t .working) (c .reply3 .ensures)) (w .bytes) (ap (λ t. t .mask) (c .reply3 .ensures))
+returns-3 c =
+    let good = sym (c .before .before .before .before .before .before .before .before .before .before .before .before .before .before .bad-access .ensures) ∙ c .before .before .before .before .before .before .before .before .before .before .before .before .before .if1 .left in
+    let w = c .before .before .before .before .before .before .before .before .before .read .ensures in
+    let r = c .reply3 .ensures in
+    done-leaves _ _ _ _ _ _ _ _ _ (read-done _ _ _ _ good (c .before .before .before .before .before .before .before .before .before .before .before .before .if2 .left)) refl (ap (λ t. t .answer) r) (w .image) (c .before .before .before .settle .ensures)
+    (ap (λ t. t .working) r) (w .bytes) (ap (λ t. t .mask) r)
 
 pub read-spec : {M : Type 1} → statement M
 read-spec =

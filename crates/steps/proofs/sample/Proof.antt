@@ -30,7 +30,13 @@ same-length c = search needs
 
 returns-2 : tie.Need-returns-2
 unfolding carried
-returns-2 c = image-leaves _ _ _ _ _ _ _ _ (sample-done _ _ _ _ (c .before .before .before .before .before .before .before .before .before .if1 .left)) refl (c .before .before .before .before .before .before .before .sample .ensures) (c .before .before .before .settle .ensures) (c .reply2 .ensures)
+returns-2 c =
+    image-leaves _ _ _ _ _ _ _ _
+    (sample-done _ _ _ _ (c .before .before .before .before .before .before .before .before .before .if1 .left))
+    refl
+    (c .before .before .before .before .before .before .before .sample .ensures)
+    (c .before .before .before .settle .ensures)
+    (c .reply2 .ensures)
 
 pub sample-spec : {M : Type 1} → statement M
 sample-spec =

@@ -30,7 +30,10 @@ reply-requires-2 c κs = search needs
 
 returns-2 : tie.Need-returns-2
 unfolding isDone
-returns-2 c = refused-leaves _ _ _ _ NothingToDo _ (work-idle _ _ _ (c .before .before .before .before .if1 .left) (sym (c .before .before .is-in-progress .ensures ∙ ap isInProgress (c .before .before .before .stage-at .ensures)) ∙ not-true _ (c .before .if2 .taken))) refl (c .reply2 .ensures)
+returns-2 c =
+    refused-leaves _ _ _ _ NothingToDo _
+    (work-idle _ _ _ (c .before .before .before .before .if1 .left) (sym (c .before .before .is-in-progress .ensures ∙ ap isInProgress (c .before .before .before .stage-at .ensures)) ∙ not-true _ (c .before .if2 .taken)))
+    refl (c .reply2 .ensures)
 
 work-requires : tie.Need-work-requires
 work-requires c κs = search needs
@@ -43,8 +46,11 @@ same-length c = search needs
 
 returns-3 : tie.Need-returns-3
 unfolding carried laidOver
-returns-3 c = let w = c .before .before .before .before .before .before .before .work .ensures in
-    done-leaves _ _ _ _ _ _ _ _ _ (work-done _ _ _ (c .before .before .before .before .before .before .before .before .before .before .before .before .if1 .left) (sym (c .before .before .before .before .before .before .before .before .before .before .is-in-progress .ensures ∙ ap isInProgress (c .before .before .before .before .before .before .before .before .before .before .before .stage-at .ensures)) ∙ not-false _ (c .before .before .before .before .before .before .before .before .before .if2 .left)))
+returns-3 c =
+    let lane = c .before .before .before .before .before .before .before .before .before .before .before .before .if1 .left in
+    let busy = c .before .before .before .before .before .before .before .before .before .before .is-in-progress .ensures ∙ ap isInProgress (c .before .before .before .before .before .before .before .before .before .before .before .stage-at .ensures) in
+    let w = c .before .before .before .before .before .before .before .work .ensures in
+    done-leaves _ _ _ _ _ _ _ _ _ (work-done _ _ _ lane (sym busy ∙ not-false _ (c .before .before .before .before .before .before .before .before .before .if2 .left)))
     refl refl (w .image) (c .before .before .settle .ensures) (w .working) (rw (work-reads-nothing _ _)) (w .mask)
 
 pub work-spec : {M : Type 1} → statement M

@@ -53,8 +53,15 @@ same-length c = search needs
 returns-2 : tie.Need-returns-2
 unfolding carried laidOver
 returns-2 c = let w = c .before .before .before .before .before .before .before .write .ensures in
-    done-leaves _ _ _ _ _ _ _ _ _ (write-done _ _ _ _ (sym (c .before .before .before .before .before .before .before .before .before .before .before .bad-access .ensures) ∙ c .before .before .before .before .before .before .before .before .before .before .if1 .left))
-    refl (ap (λ t. t .answer) (c .reply2 .ensures)) (w .registers) (c .before .before .before .settle .ensures) (ap (λ t. t .working) (c .reply2 .ensures) ∙ w .records) refl (ap (λ t. t .mask) (c .reply2 .ensures))
+    done-leaves _ _ _ _ _ _ _ _ _
+    (write-done _ _ _ _ (sym (c .before .before .before .before .before .before .before .before .before .before .before .bad-access .ensures) ∙ c .before .before .before .before .before .before .before .before .before .before .if1 .left))
+    refl
+    (ap (λ t. t .answer) (c .reply2 .ensures))
+    (w .registers)
+    (c .before .before .before .settle .ensures)
+    (ap (λ t. t .working) (c .reply2 .ensures) ∙ w .records)
+    refl
+    (ap (λ t. t .mask) (c .reply2 .ensures))
 
 pub write-spec : {M : Type 1} → statement M
 write-spec =

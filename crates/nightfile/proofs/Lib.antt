@@ -1,0 +1,2 @@
+-- The laws of the check of a file.
+pub mod Checks

@@ -1,0 +1,60 @@
+-- Laws of what the check of a file finds: how long a good file is, and what is printed. Assumes nothing.
+use mathlib.Core.Path.{_≡_, sym, _∙_}
+use mathlib.Core.Bool.{true}
+use mathlib.Core.List.{List}
+use Prim.Native.Nat.{ℕ, _+_, _*_, _≤_}
+use native.Mathlib.Omega.{arith}
+use lib.ListN.{length}
+use borrow.Author.Tests.{leb-true}
+use Rattle.bits.proofs.Tests.{split, both-l, both-r, pick-true, pick-false}
+use Rattle.model.specs.Refusals.{isFlat}
+use Rattle.model.specs.Start.{started}
+use Rattle.model.specs.Lanes.{idleWorking}
+use Rattle.model.specs.Outcome.{state}
+use Rattle.model.specs.File.{recordCount, isHeader, imageIn, eventsIn, isWellFormed, checked}
+use Rattle.model.specs.Text.{badLine}
+use Rattle.model.specs.Night.{nightOf, printedBy, printed}
+use Rattle.model.specs.declared.file.FileCheck.the-variants.{Malformed, FlatMemory, Good}
+use Rattle.nightfile.proofs.Checks.{framed-length}
+use Rattle.replay.specs.Replay.{textAfter}
+
+-- a good file has its whole length, and its count is its header's
+pub record IsGood (file : List ℕ) (count : ℕ) : Type 0 where
+  pub whole : length file ≡ 784 + 12 * count
+  pub few : count ≤ 5000
+  pub counted : recordCount file ≡ count
+
+header-few : (file : List ℕ) → isHeader file ≡ true → recordCount file ≤ 5000
+unfolding isHeader
+header-few file h = leb-true _ _ (both-l _ _ (both-r _ _ (both-r _ _ h)))
+
+good-count : (file : List ℕ) (n : ℕ) → isWellFormed file ≡ true → recordCount file ≡ n → IsGood file n
+unfolding isWellFormed
+good-count file n w e =
+    record {
+      whole = rw (← e) (framed-length file (both-l _ _ w));
+      few = rw (← e) (header-few file (both-l _ _ (both-l _ _ w)));
+      counted = e;
+    }
+
+pub good-file : (file : List ℕ) (count : ℕ) → checked file ≡ Good count → IsGood file count
+unfolding checked
+good-file file count g = split (isWellFormed file)
+    (λ w. split (isFlat (imageIn file))
+    (λ f. let e = sym g ∙ pick-true _ _ w ∙ pick-true _ _ f in let z : _≡_ {A = ℕ} 0 1 = cc e in absurd (omega arith))
+    (λ f. let e = sym g ∙ pick-true _ _ w ∙ pick-false _ _ f in let q : recordCount file ≡ count = cc e in good-count file count w q))
+    (λ w. let e = sym g ∙ pick-false _ _ w in let z : _≡_ {A = ℕ} 0 1 = cc e in absurd (omega arith))
+
+-- what is printed, by what the check found
+module _ (file : List ℕ) where
+  pub prints-malformed : checked file ≡ Malformed → printed file ≡ badLine 9
+  unfolding printed printedBy
+  prints-malformed e = rw e
+
+  pub prints-flat : checked file ≡ FlatMemory → printed file ≡ badLine 2
+  unfolding printed printedBy
+  prints-flat e = rw e
+
+  pub prints-night : (count : ℕ) → checked file ≡ Good count → printed file ≡ textAfter (state (started (imageIn file) .image) idleWorking) file count
+  unfolding printed printedBy nightOf eventsIn textAfter started
+  prints-night count e = rw (e, good-file file count e .counted)

@@ -1,0 +1,41 @@
+-- The room that a file asks for holds all that is printed for it. Assumes nothing.
+use mathlib.Core.Path.{_≡_, refl, ap, _∙_}
+use mathlib.Core.List.{List}
+use Prim.Native.Nat.{ℕ, zero, suc, _*_, _≤_}
+use native.Mathlib.Numerals.{add-one}
+use native.Mathlib.Omega.{arith}
+use lib.ListN.{length, length-append}
+use Rattle.bits.specs.Loop.{tab}
+use Rattle.model.specs.Answers.{number}
+use Rattle.model.specs.Triggers.{State}
+use Rattle.model.specs.Step.{run}
+use Rattle.model.specs.File.{eventAt, checked}
+use Rattle.model.specs.Text.{line}
+use Rattle.model.specs.Night.{linesFrom, printed}
+use Rattle.model.specs.declared.file.FileCheck.{FileCheck}
+use Rattle.model.specs.declared.file.FileCheck.the-variants.{Malformed, FlatMemory, Good}
+use Rattle.text.proofs.Lines.{length-bad}
+use Rattle.replay.specs.Replay.{roomFor, stateAfter, textAfter}
+use Rattle.replay.proofs.Files.{good-file, prints-malformed, prints-flat, prints-night}
+use Rattle.replay.proofs.ReadBytes.{line-fits}
+use Rattle.replay.proofs.Records.{stepOf, text-next}
+
+-- 391 bytes a record
+text-fits : (s : State) (file : List ℕ) (k : ℕ) → k ≤ 5000 → length (textAfter s file k) ≤ 391 * k
+unfolding textAfter linesFrom run tab
+text-fits s file zero h = omega arith
+text-fits s file (suc k) h =
+    let o = stepOf s file k in
+    let e : length (textAfter s file (suc k)) ≡ _ =
+    ap length (rw add-one at (text-next s file k)) ∙ length-append (textAfter s file k) (line k (number (o .answer)) (o .bytes)) in
+    omega (arith, text-fits s file k (omega arith), line-fits (stateAfter s file k) (eventAt file k) k (omega arith))
+
+found-fits : (file : List ℕ) (found : FileCheck) → checked file ≡ found → length (printed file) ≤ roomFor found
+unfolding roomFor
+found-fits file Malformed e = rw (prints-malformed file e) (omega (arith, length-bad 9 (omega arith)))
+found-fits file FlatMemory e = rw (prints-flat file e) (omega (arith, length-bad 2 (omega arith)))
+found-fits file (Good count) e = rw (prints-night file count e) (text-fits _ file count (good-file file count e .few))
+
+-- THE ROOM IS ENOUGH, whatever bytes the file holds
+pub printed-fits : (file : List ℕ) → length (printed file) ≤ roomFor (checked file)
+printed-fits file = found-fits file (checked file) refl

@@ -1,0 +1,2 @@
+-- A night file replayed into a lent buffer.
+pub mod Replay

@@ -1,0 +1,181 @@
+// A night file replayed: from its bytes to all that is printed, in a lent buffer.
+ghost use mathlib.Core.Path.{_≡_};
+ghost use Prim.Native.Nat.{_+_, _*_, _≤_, _<_};
+ghost use lib.ListN.{length};
+ghost use Rattle.model.specs.Start.{started};
+ghost use Rattle.model.specs.Work.{early};
+ghost use Rattle.model.specs.Step.{step};
+ghost use Rattle.model.specs.Lanes.{idleWorking};
+ghost use Rattle.model.specs.Outcome.{state, listRoom};
+ghost use Rattle.model.specs.File.{imageIn, eventAt, checked};
+ghost use Rattle.model.specs.Text.{badLine};
+ghost use Rattle.model.specs.Night.{printed};
+ghost use Rattle.model.specs.declared.file.FileCheck.the-variants as found;
+ghost use Rattle.text.specs.Buffer.{Puts};
+ghost use Rattle.replay.specs.Replay.{roomFor, answerFor, leftIn, Gives, countOf, shownBy, textAfter, Turns};
+use model::event::Call;
+use model::file::FileCheck;
+use model::lane::Working;
+
+// Where a file's image starts, and its length.
+const IMAGE_OFFSET: usize = 16;
+
+const IMAGE_LENGTH: usize = 768;
+
+// The most bytes that a read gives.
+const READ_LIMIT: usize = 128;
+
+// The room that a record's line asks for, and a bad line.
+const LINE_ROOM: usize = 391;
+
+const BAD_ROOM: usize = 7;
+
+// What C is answered where the buffer is too short.
+const SHORT_BUFFER: usize = 18446744073709551615;
+
+// What a replay answers: that the buffer is too short, or how many bytes it printed.
+pub enum Replayed {
+    ShortBuffer,
+    Printed(usize),
+}
+
+// How far a replay has come: the bytes printed, and what the module keeps beside its image.
+pub struct Reached {
+    pub at: usize,
+    pub working: Working,
+}
+
+// How many bytes the line of an event shows, by its answer's number.
+fn shown(answer: u8, call: Call) -> usize
+    ensures { λ r. ⌜ r ≡ shownBy answer call ⌝ }
+{
+    if answer != 0 {
+        return 0;
+    }
+    match call {
+        Call::Write {
+            address: _,
+            count: _,
+        } => 0,
+        Call::Read { address: _, count } => count as usize,
+        Call::Work { lane: _ } => 0,
+        Call::Hardware { lane: _ } => 0,
+        Call::Condition { flag: _, mask: _ } => 0,
+        Call::Sample { lane: _, power: _ } => 0,
+    }
+}
+
+// A file's image.
+fn copy_image(file: &[u8], image: &mut [u8])
+    requires { ⌜ (784 ≤ length (now file)) × (length (now image) ≡ 768) ⌝ }
+    ensures { λ _. ⌜ now (image .exit) ≡ imageIn (now (file .entry)) ⌝ }
+{
+    for i in 0..IMAGE_LENGTH {
+        image[i] = file[IMAGE_OFFSET + i];
+    }
+}
+
+// A file's image, as a module starts with it.
+fn start_image(file: &[u8], image: &mut [u8])
+    requires { ⌜ (784 ≤ length (now file)) × (length (now image) ≡ 768) ⌝ }
+    ensures { λ _. ⌜ now (image .exit) ≡ (started (imageIn (now (file .entry)))) .image ⌝ }
+{
+    copy_image(file, image);
+    startup::reset(image)
+}
+
+// A record's turn: its event, then its line.
+fn turn(
+    image: &mut [u8],
+    reached: Reached,
+    buffer: &mut [u8],
+    file: &[u8],
+    k: u32,
+    out: &mut [u8],
+) -> Reached
+    requires { ⌜ (length (now image) ≡ 768) × (length (now buffer) ≡ 128) × (784 + 12 * k + 12 ≤ length (now file)) × (k < 5000) × (reached .at + 391 ≤ length (now out)) ⌝ }
+    ensures { λ r. ⌜ Turns (step early listRoom (state (now (image .entry)) (reached .working)) (eventAt (now (file .entry)) k)) k (reached .at) (now (out .entry)) (now (out .exit)) (now (image .exit)) r ⌝ }
+{
+    let event = nightfile::event_at(file, k);
+    let call = event.call;
+    let at = reached.at;
+    let left = steps::step(image, reached.working, event, buffer);
+    let working = left.working;
+    let answer = left.answer;
+    let number = answer.number();
+    let count = shown(number, call);
+    let at = text::put_line(out, at, k, number, buffer, count);
+    Reached { at, working }
+}
+
+// The records of a file, each with its turn, from an image with all lanes idle.
+fn play(image: &mut [u8], buffer: &mut [u8], file: &[u8], count: u32, out: &mut [u8]) -> usize
+    requires { ⌜ (length (now image) ≡ 768) × (length (now buffer) ≡ 128) × (784 + 12 * count ≤ length (now file)) × (count ≤ 5000) × (391 * count ≤ length (now out)) ⌝ }
+    ensures { λ r. ⌜ Puts 0 (textAfter (state (now (image .entry)) idleWorking) (now (file .entry)) count) (now (out .entry)) (now (out .exit)) r ⌝ }
+{
+    let working = Working::idle();
+    let mut reached = Reached { at: 0, working };
+    for k in 0..count {
+        reached = turn(image, reached, buffer, file, k, out);
+    }
+    reached.at
+}
+
+// The text of a good file.
+fn print_good(file: &[u8], count: u32, out: &mut [u8]) -> Replayed
+    requires { ⌜ checked (now file) ≡ found.Good count ⌝ }
+    ensures { λ r. ⌜ Gives (391 * count) (printed (now (file .entry))) (now (out .entry)) (now (out .exit)) r ⌝ }
+{
+    if out.len() < LINE_ROOM * (count as usize) {
+        return Replayed::ShortBuffer;
+    }
+    let mut image = [0u8; IMAGE_LENGTH];
+    let mut buffer = [0u8; READ_LIMIT];
+    start_image(file, &mut image);
+    let n = play(&mut image, &mut buffer, file, count, out);
+    Replayed::Printed(n)
+}
+
+// The line of a file that is not replayed.
+fn print_bad(answer: u8, out: &mut [u8]) -> Replayed
+    requires { ⌜ answer < 10 ⌝ }
+    ensures { λ r. ⌜ Gives 7 (badLine answer) (now (out .entry)) (now (out .exit)) r ⌝ }
+{
+    if out.len() < BAD_ROOM {
+        return Replayed::ShortBuffer;
+    }
+    let n = text::put_bad(out, 0, answer);
+    Replayed::Printed(n)
+}
+
+// All that is printed for a file, whatever bytes it holds.
+pub fn replay(file: &[u8], out: &mut [u8]) -> Replayed
+    ensures { λ r. ⌜ Gives (roomFor (checked (now (file .entry)))) (printed (now (file .entry))) (now (out .entry)) (now (out .exit)) r ⌝ }
+{
+    let found = nightfile::check(file);
+    match found {
+        FileCheck::Malformed => print_bad(9, out),
+        FileCheck::FlatMemory => print_bad(2, out),
+        FileCheck::Good(count) => print_good(file, count, out),
+    }
+}
+
+// The answer as a number.
+fn count_of(answer: Replayed) -> usize
+    ensures { λ r. ⌜ r ≡ countOf answer ⌝ }
+{
+    match answer {
+        Replayed::ShortBuffer => SHORT_BUFFER,
+        Replayed::Printed(n) => n,
+    }
+}
+
+// `replay` for a program in C: the bytes printed, or the largest number where the buffer is too short.
+#[no_mangle]
+pub extern "C" fn night_replay(file: &[u8], out: &mut [u8]) -> usize
+    ensures { λ r. ⌜ r ≡ countOf (answerFor (roomFor (checked (now (file .entry)))) (printed (now (file .entry))) (now (out .entry))) ⌝ }
+    ensures { λ _. ⌜ now (out .exit) ≡ leftIn (roomFor (checked (now (file .entry)))) (printed (now (file .entry))) (now (out .entry)) ⌝ }
+{
+    let answer = replay(file, out);
+    count_of(answer)
+}
