@@ -63,10 +63,5 @@ pub fn select_page(image: &mut [u8], page: u8)
 pub fn page_byte(image: &[u8], start: usize, offset: usize) -> u8
     ensures { λ r. ⌜ r ≡ getD (now (image .entry)) (start + offset) 0 ⌝ }
 {
-    if start <= image.len() {
-        if offset < image.len() - start {
-            return image[start + offset];
-        }
-    }
-    0
+    window::page_byte(image, start, offset)
 }

@@ -1,12 +1,12 @@
--- `pages::page_byte` meets its contract. Assumes nothing.
+-- `window::byte_in` meets its contract. Assumes nothing.
 use mathlib.Core.Path.{sym}
 use Prim.Native.Nat.{_+_}
 use denote.Ref.{now}
 use native.Mathlib.Omega.{arith}
 use lib.ListN.{List·getD-eq-default}
 use borrow.Author.Needs.{needs}
-use Rattle.pages.proofs.page_byte.Statement.{statement}
-use Rattle.pages.proofs.page_byte.Tie as tie
+use Rattle.window.proofs.byte_in.Statement.{statement}
+use Rattle.window.proofs.byte_in.Tie as tie
 
 sub-if2 : tie.Need-sub-if2
 sub-if2 c = search needs
@@ -26,6 +26,6 @@ returns-2 c = sym (List·getD-eq-default (now (c .before .before .args .image)) 
 returns-3 : tie.Need-returns-3
 returns-3 c = sym (List·getD-eq-default (now (c .before .args .image)) 0 {n = c .before .args .start + c .before .args .offset} (omega arith))
 
-pub page-byte-spec : {M : Type 1} → statement M
-page-byte-spec =
+pub byte-in-spec : {M : Type 1} → statement M
+byte-in-spec =
     tie.close (tie.spec sub-if2 add-result shared-slice-read-result returns returns-2 returns-3)
