@@ -11,12 +11,11 @@ use lib.ListN.{length, getD, set}
 use lib.Seq.{getD-set-other}
 use Rattle.bits.specs.Choice.{onlyIf}
 use Rattle.bits.specs.Loop.{each, tab}
-use Rattle.bits.proofs.Tests.{pick-true, pick-false}
+use Rattle.bits.proofs.Tests.{pick-true, pick-false, or-either}
 use Rattle.bits.proofs.Loops.{each-skip}
 use Rattle.model.specs.Map.{Image, clearing, applyDPInit, applyImmediate}
 use Rattle.model.specs.Access.{shown, taken, cleared}
 use Rattle.model.specs.Outcome.{laidOver}
-use Rattle.map.proofs.Ranges.{or-either}
 
 -- what is shown, by whether the byte is a trigger
 pub shown-trigger : (x : Image) (i : ℕ) → (eqb i applyDPInit || eqb i applyImmediate) ≡ true → shown x i ≡ 0

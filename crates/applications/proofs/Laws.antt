@@ -10,17 +10,11 @@ use lib.ListN.{getD}
 use Rattle.bits.specs.Choice.{both}
 use Rattle.bits.specs.Loop.{allBelow}
 use Rattle.bits.proofs.Loops.{tab-at}
-use Rattle.bits.proofs.Tests.{pick-true, pick-false}
+use Rattle.bits.proofs.Tests.{pick-true, pick-false, and-both}
 use Rattle.model.specs.Map.{Image}
 use Rattle.model.specs.Applications.{descriptorAt, listReaches, hostLaneCount, isPresent, lookup}
 use Rattle.model.specs.View.{applicationsOf, applicationIn}
 use Rattle.model.specs.declared.application.Lookup.the-variants.{Missing, Found}
-
--- the code's conjunction
-and-both : (a b : Bool) → (a && b) ≡ both a b
-unfolding both
-and-both true b = refl
-and-both false b = refl
 
 and-three : (a b c : Bool) → ((a && b) && c) ≡ both a (both b c)
 unfolding both

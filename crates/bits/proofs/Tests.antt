@@ -1,6 +1,6 @@
 -- Bool tests: case analysis, and what the tests of specs/Choice tell. Assumes nothing.
 use mathlib.Core.Path.{_≡_, refl, sym}
-use mathlib.Core.Bool.{Bool, true, false}
+use mathlib.Core.Bool.{Bool, true, false, _&&_, _||_}
 use mathlib.Core.Logic.{_⊎_, inl, inr}
 use Prim.Native.Nat.{ℕ}
 use native.Mathlib.Omega.{arith}
@@ -90,3 +90,14 @@ module _ {ℓ} {A : Type ℓ} {b : Bool} where
   pub only-false : (f : A → A) (x : A) → b ≡ false → onlyIf b f x ≡ x
   unfolding onlyIf
   only-false f x e = rw (e, onlyIf)
+
+-- the code's `&` and `|`
+pub and-both : (a b : Bool) → (a && b) ≡ both a b
+unfolding both
+and-both true b = refl
+and-both false b = refl
+
+pub or-either : (a b : Bool) → (a || b) ≡ either a b
+unfolding either
+or-either true b = refl
+or-either false b = refl

@@ -3,16 +3,6 @@ use mathlib.Core.Path.{_≡_, refl, sym, ap, _∙_}
 use mathlib.Core.Bool.{Bool, true, false, _&&_, _||_}
 use Rattle.bits.specs.Choice.{both, either}
 
-pub and-both : (a b : Bool) → (a && b) ≡ both a b
-unfolding both
-and-both true b = refl
-and-both false b = refl
-
-pub or-either : (a b : Bool) → (a || b) ≡ either a b
-unfolding either
-or-either true b = refl
-or-either false b = refl
-
 pub either-or : (a b r : Bool) → either (a || b) r ≡ either a (either b r)
 unfolding either
 either-or true b r = refl

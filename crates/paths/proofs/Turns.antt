@@ -8,18 +8,9 @@ use Rattle.bits.specs.Choice.{pick, both, either}
 use Rattle.bits.specs.Loop.{anyBelow}
 use Rattle.bits.specs.Number.{withField}
 use Rattle.bits.specs.Sets.{has, maskOf}
+use Rattle.bits.proofs.Tests.{and-both, or-either}
 
 -- the code's tests
-pub and-both : (a b : Bool) → (a && b) ≡ both a b
-unfolding both
-and-both true b = refl
-and-both false b = refl
-
-pub or-either : (a b : Bool) → (a || b) ≡ either a b
-unfolding either
-or-either true b = refl
-or-either false b = refl
-
 pub and-pick : (a b : Bool) → (a && b) ≡ pick a b false
 unfolding pick
 and-pick true b = refl

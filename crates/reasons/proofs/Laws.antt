@@ -9,7 +9,7 @@ use Rattle.bits.specs.Number.{field}
 use Rattle.bits.specs.Place.{get}
 use Rattle.bits.specs.Sets.{has}
 use Rattle.bits.proofs.Loops.{tab-at, tab-past}
-use Rattle.paths.proofs.Turns.{and-both, or-either}
+use Rattle.bits.proofs.Tests.{and-both, or-either}
 use Rattle.model.specs.Map.{Image, stateAt}
 use Rattle.model.specs.View.{explicit, limitsOf, stateIn, statesOf, viewOf}
 use Rattle.model.specs.Verdicts.{outOfLimits, tooLate, wrongState}

@@ -4,10 +4,10 @@ use mathlib.Core.Bool.{Bool, true, false, not, _&&_, _||_}
 use lib.Dec.{eqb}
 use Rattle.bits.specs.Choice.{both, implies, same}
 use Rattle.bits.specs.Loop.{allBelow}
+use Rattle.bits.proofs.Tests.{and-both}
 use Rattle.model.specs.View.{settingValues}
 use Rattle.model.specs.Sound.{sameSettings}
 use Rattle.model.specs.declared.lane.Settings.{Settings}
-use Rattle.paths.proofs.Turns.{and-both}
 use Rattle.stages.proofs.Fits.{and-seven}
 
 -- two tests agree where both hold or neither

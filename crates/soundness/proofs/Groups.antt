@@ -8,7 +8,7 @@ use borrow.Author.Tests.{leb-true, not-false}
 use Rattle.bits.specs.Choice.{pick, both, either, implies}
 use Rattle.bits.specs.Place.{get}
 use Rattle.bits.specs.Sets.{has, maskOf, nextIn}
-use Rattle.bits.proofs.Tests.{both-l, both-r}
+use Rattle.bits.proofs.Tests.{both-l, both-r, and-both}
 use Rattle.bits.proofs.Loops.{any-find, any-ext}
 use Rattle.bits.proofs.Masks.{has-mask, first-in, next-bound}
 use Rattle.model.specs.Map.{Image, activeSet, stagedSet0, stateAt}
@@ -20,7 +20,6 @@ use Rattle.model.specs.Work.{isRelease}
 use Rattle.model.specs.Sound.{statusTells, stageFits, outsidePassing, groupFits, laneSound, makePath, agreeOnState, heldsOf, hasPurpose, rests, notCopied, restIsWhole}
 use Rattle.model.specs.declared.lane.Stage.{Stage}
 use Rattle.model.specs.declared.lane.Working.{Working}
-use Rattle.paths.proofs.Turns.{and-both}
 use Rattle.stages.proofs.Turns.{or-implies}
 use Rattle.soundness.proofs.Choices.{both-assoc, both-false, lane-by}
 use Rattle.soundness.proofs.Lanes.{states-of, states-past}

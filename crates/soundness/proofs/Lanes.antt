@@ -8,6 +8,7 @@ use Rattle.bits.specs.Loop.{allBelow}
 use Rattle.bits.specs.Place.{get}
 use Rattle.bits.specs.Sets.{has}
 use Rattle.bits.proofs.Loops.{tab-at, tab-past, all-ext}
+use Rattle.bits.proofs.Tests.{and-both}
 use Rattle.model.specs.Map.{Image, activeSet, stagedSet0, stateAt, pendingAt}
 use Rattle.model.specs.Lanes.{stageAt, heldIn}
 use Rattle.model.specs.View.{viewOf, settingsAt, statesOf, stateIn, of}
@@ -16,7 +17,6 @@ use Rattle.model.specs.Work.{written}
 use Rattle.model.specs.Sound.{agreeOnState, isAtRest, heldsOf, sameSettings, holdsCopied}
 use Rattle.model.specs.declared.lane.Working.{Working}
 use Rattle.settings.proofs.View.{settings-of}
-use Rattle.paths.proofs.Turns.{and-both}
 
 pub states-of : (x : Image) (l : ℕ) → l < 8 → stateIn (statesOf x) l ≡ get x (stateAt l)
 unfolding statesOf

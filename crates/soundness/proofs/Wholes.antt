@@ -11,6 +11,7 @@ use Rattle.bits.specs.Place.{get}
 use Rattle.bits.proofs.Number.{got-lt}
 use Rattle.bits.proofs.Loops.{all-ext}
 use Rattle.bits.proofs.Masks.{has-mask}
+use Rattle.bits.proofs.Tests.{and-both}
 use Rattle.model.specs.Map.{Image, activeSet, stagedSet0, stateAt}
 use Rattle.model.specs.Lanes.{stageAt, heldIn, idleWorking}
 use Rattle.model.specs.View.{viewOf, settingsOf, statesOf, applicationsOf, applicationIn, of, appSel, pathId, isUsed, samePath, pathOf, within, fills}
@@ -18,7 +19,6 @@ use Rattle.model.specs.Sound.{share, makePath, agreeOnState, inWholePath, isAtR
 use Rattle.model.specs.declared.application.Lookup.{Lookup}
 use Rattle.model.specs.declared.lane.Settings.{Settings}
 use Rattle.model.specs.declared.lane.Working.{Working}
-use Rattle.paths.proofs.Turns.{and-both}
 use Rattle.soundness.proofs.Choices.{case-true, case-false}
 use Rattle.soundness.proofs.Lanes.{held-of, states-of}
 

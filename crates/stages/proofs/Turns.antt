@@ -6,7 +6,7 @@ use native.Mathlib.Numerals.{add-one}
 use Rattle.bits.specs.Choice.{implies}
 use Rattle.bits.specs.Loop.{allBelow}
 use Rattle.bits.specs.Sets.{has}
-use Rattle.paths.proofs.Turns.{and-both}
+use Rattle.bits.proofs.Tests.{and-both}
 
 -- the code's implication
 pub or-implies : (a b : Bool) → (not a || b) ≡ implies a b

@@ -7,6 +7,7 @@ use Rattle.bits.specs.Choice.{either}
 use Rattle.bits.specs.Sets.{has, maskOf}
 use Rattle.bits.proofs.Loops.{any-ext}
 use Rattle.bits.proofs.Masks.{has-mask}
+use Rattle.bits.proofs.Tests.{or-either}
 use Rattle.model.specs.Map.{Image, activeSet}
 use Rattle.model.specs.Lanes.{stageAt, isInProgress, anyInProgress}
 use Rattle.model.specs.View.{of, settingsOf, isUsed, pathOf}
@@ -20,7 +21,6 @@ use Rattle.model.specs.declared.answer.Answer.the-variants.{Done, BadAccess, Sh
 use Rattle.model.specs.declared.event.Call.the-variants.{Write, Read, Work, Hardware, Condition, Sample}
 use Rattle.model.specs.declared.lane.Stage.{Stage}
 use Rattle.model.specs.declared.lane.Working.{Working}
-use Rattle.paths.proofs.Turns.{or-either}
 use Rattle.steps.proofs.Outcomes.{first-here, first-next, first-none}
 
 lane-there : (l : ℕ) → l < 8 → noSuchLane l ≡ false

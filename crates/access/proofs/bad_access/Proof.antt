@@ -4,8 +4,9 @@ use mathlib.Core.Bool.{_||_}
 use Prim.Native.Nat.{_-_}
 use native.Mathlib.Omega.{arith}
 use lib.Dec.{eqb, ltb}
+use Rattle.bits.proofs.Tests.{or-either}
 use Rattle.model.specs.Access.{halfEnd, isBadAccess}
-use Rattle.map.proofs.Ranges.{or-either, either-or}
+use Rattle.map.proofs.Ranges.{either-or}
 use Rattle.access.proofs.Halves.{half-holds, past-end}
 use borrow.Author.Needs.{needs}
 use Rattle.access.proofs.bad_access.Statement.{statement}

@@ -1,7 +1,7 @@
 -- `flags::is_unmasked` meets its contract. Assumes nothing.
 use Rattle.bits.specs.Place.{digit}
+use Rattle.bits.proofs.Tests.{and-both}
 use Rattle.model.specs.Flags.{isUnmasked}
-use Rattle.map.proofs.Ranges.{and-both}
 use borrow.Author.Needs.{needs}
 use Rattle.flags.proofs.is_unmasked.Statement.{statement}
 use Rattle.flags.proofs.is_unmasked.Tie as tie

@@ -1,6 +1,6 @@
 -- `groups::is_joined` meets its contract. Assumes nothing.
+use Rattle.bits.proofs.Tests.{and-both}
 use Rattle.model.specs.Groups.{joined}
-use Rattle.paths.proofs.Turns.{and-both}
 use borrow.Author.Needs.{needs}
 use Rattle.groups.proofs.is_joined.Statement.{statement}
 use Rattle.groups.proofs.is_joined.Tie as tie

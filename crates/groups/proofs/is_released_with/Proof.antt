@@ -1,8 +1,8 @@
 -- `groups::is_released_with` meets its contract. Assumes nothing.
 use mathlib.Core.Path.{ap, _∙_}
 use Rattle.bits.specs.Choice.{both}
+use Rattle.bits.proofs.Tests.{and-both, or-either}
 use Rattle.model.specs.Groups.{releasedWith}
-use Rattle.paths.proofs.Turns.{and-both, or-either}
 use borrow.Author.Needs.{needs}
 use Rattle.groups.proofs.is_released_with.Statement.{statement}
 use Rattle.groups.proofs.is_released_with.Tie as tie

@@ -1,5 +1,5 @@
 -- `map::within` meets its contract. Assumes nothing.
-use Rattle.map.proofs.Ranges.{and-both}
+use Rattle.bits.proofs.Tests.{and-both}
 use Rattle.map.proofs.within.Statement.{statement}
 use Rattle.map.proofs.within.Tie as tie
 

@@ -5,8 +5,8 @@ use Prim.Native.Nat.{ℕ}
 use lib.Dec.{eqb}
 use borrow.Author.Tests.{eq-eqb, ne-eqb}
 use Rattle.bits.specs.Choice.{pick, both, implies}
+use Rattle.bits.proofs.Tests.{and-both}
 use Rattle.model.specs.Pages.{pagePlace, findPage}
-use Rattle.map.proofs.Ranges.{and-both}
 use Rattle.pages.proofs.page_place.Statement.{statement}
 use Rattle.pages.proofs.page_place.Tie as tie
 

@@ -1,8 +1,8 @@
 -- `paths::same_path` meets its contract. Assumes nothing.
 use mathlib.Core.Path.{ap, _∙_}
 use Rattle.bits.specs.Choice.{both}
+use Rattle.bits.proofs.Tests.{and-both}
 use Rattle.model.specs.View.{samePath}
-use Rattle.paths.proofs.Turns.{and-both}
 use borrow.Author.Needs.{needs}
 use Rattle.paths.proofs.same_path.Statement.{statement}
 use Rattle.paths.proofs.same_path.Tie as tie

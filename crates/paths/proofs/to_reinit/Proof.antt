@@ -1,6 +1,6 @@
 -- `paths::to_reinit` meets its contract. Assumes nothing.
+use Rattle.bits.proofs.Tests.{or-either}
 use Rattle.model.specs.Hardware.{toReinit}
-use Rattle.paths.proofs.Turns.{or-either}
 use borrow.Author.Needs.{needs}
 use Rattle.paths.proofs.to_reinit.Statement.{statement}
 use Rattle.paths.proofs.to_reinit.Tie as tie

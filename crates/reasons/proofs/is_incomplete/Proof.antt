@@ -7,9 +7,10 @@ use Prim.Native.Nat.{_≤_, _-_}
 use Rattle.bits.specs.Loop.{anyBelow}
 use Rattle.bits.specs.Choice.{both}
 use Rattle.bits.specs.Sets.{has}
+use Rattle.bits.proofs.Tests.{and-both}
 use Rattle.model.specs.View.{within}
 use Rattle.model.specs.Verdicts.{incomplete}
-use Rattle.paths.proofs.Turns.{and-both, any-begin, any-turn}
+use Rattle.paths.proofs.Turns.{any-begin, any-turn}
 use Rattle.reasons.proofs.is_incomplete.Statement.{statement}
 use Rattle.reasons.proofs.is_incomplete.Tie as tie
 

@@ -1,8 +1,8 @@
 -- `reasons::is_misplaced` meets its contract. Assumes nothing.
 use mathlib.Core.Path.{ap, _∙_}
 use Rattle.bits.specs.Choice.{either}
+use Rattle.bits.proofs.Tests.{or-either}
 use Rattle.model.specs.Verdicts.{misplaced}
-use Rattle.paths.proofs.Turns.{or-either}
 use borrow.Author.Needs.{needs}
 use Rattle.reasons.proofs.is_misplaced.Statement.{statement}
 use Rattle.reasons.proofs.is_misplaced.Tie as tie

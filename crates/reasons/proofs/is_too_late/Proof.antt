@@ -1,7 +1,7 @@
 -- `reasons::is_too_late` meets its contract. Assumes nothing.
+use Rattle.bits.proofs.Tests.{and-both}
 use Rattle.model.specs.View.{viewOf}
 use Rattle.model.specs.Verdicts.{tooLate}
-use Rattle.paths.proofs.Turns.{and-both}
 use borrow.Author.Needs.{needs}
 use Rattle.reasons.proofs.is_too_late.Statement.{statement}
 use Rattle.reasons.proofs.is_too_late.Tie as tie

@@ -1,6 +1,6 @@
 -- `reasons::is_within` meets its contract. Assumes nothing.
+use Rattle.bits.proofs.Tests.{and-both}
 use Rattle.model.specs.View.{within}
-use Rattle.paths.proofs.Turns.{and-both}
 use borrow.Author.Needs.{needs}
 use Rattle.reasons.proofs.is_within.Statement.{statement}
 use Rattle.reasons.proofs.is_within.Tie as tie

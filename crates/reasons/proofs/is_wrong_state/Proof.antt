@@ -1,7 +1,7 @@
 -- `reasons::is_wrong_state` meets its contract. Assumes nothing.
+use Rattle.bits.proofs.Tests.{or-either}
 use Rattle.model.specs.View.{viewOf}
 use Rattle.model.specs.Verdicts.{wrongState}
-use Rattle.paths.proofs.Turns.{or-either}
 use borrow.Author.Needs.{needs}
 use Rattle.reasons.proofs.is_wrong_state.Statement.{statement}
 use Rattle.reasons.proofs.is_wrong_state.Tie as tie

@@ -2,8 +2,8 @@
 use borrow.Author.Needs.{needs}
 use mathlib.Core.Path.{ap, _∙_}
 use Rattle.bits.specs.Choice.{both}
+use Rattle.bits.proofs.Tests.{and-both}
 use Rattle.model.specs.View.{fills}
-use Rattle.paths.proofs.Turns.{and-both}
 use Rattle.soundness.proofs.fills.Statement.{statement}
 use Rattle.soundness.proofs.fills.Tie as tie
 

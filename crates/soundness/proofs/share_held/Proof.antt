@@ -6,9 +6,9 @@ use lib.Dec.{eqb}
 use Rattle.bits.specs.Choice.{both, implies}
 use Rattle.bits.specs.Loop.{allBelow}
 use Rattle.bits.specs.Sets.{has}
+use Rattle.bits.proofs.Tests.{and-both}
 use Rattle.model.specs.Lanes.{stageAt, heldIn}
 use Rattle.model.specs.View.{appSel, pathId}
-use Rattle.paths.proofs.Turns.{and-both}
 use Rattle.stages.proofs.Turns.{all-begin, every-turn}
 use Rattle.soundness.proofs.Wholes.{share-held-by}
 use native.Mathlib.Omega.{arith}

@@ -2,8 +2,8 @@
 use borrow.Author.Needs.{needs}
 use mathlib.Core.Path.{ap, _∙_}
 use Rattle.bits.specs.Choice.{both}
+use Rattle.bits.proofs.Tests.{and-both}
 use Rattle.model.specs.Sound.{agrees}
-use Rattle.paths.proofs.Turns.{and-both}
 use Rattle.stages.proofs.agrees.Statement.{statement}
 use Rattle.stages.proofs.agrees.Tie as tie
 

@@ -2,8 +2,8 @@
 use borrow.Author.Needs.{needs}
 use mathlib.Core.Path.{ap₂, _∙_}
 use Rattle.bits.specs.Choice.{both}
+use Rattle.bits.proofs.Tests.{and-both}
 use Rattle.model.specs.Sound.{stageFits}
-use Rattle.paths.proofs.Turns.{and-both}
 use Rattle.stages.proofs.stage_fits.Statement.{statement}
 use Rattle.stages.proofs.stage_fits.Tie as tie
 

@@ -1,7 +1,7 @@
 -- `stages::verdict_fits` meets its contract. Assumes nothing.
 use borrow.Author.Needs.{needs}
+use Rattle.bits.proofs.Tests.{and-both, or-either}
 use Rattle.model.specs.Sound.{verdictFits}
-use Rattle.paths.proofs.Turns.{and-both, or-either}
 use Rattle.stages.proofs.verdict_fits.Statement.{statement}
 use Rattle.stages.proofs.verdict_fits.Tie as tie
 
