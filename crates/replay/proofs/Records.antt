@@ -10,14 +10,14 @@ use Rattle.bits.specs.Loop.{tab}
 use Rattle.bits.proofs.Loops.{length-tab}
 use Rattle.model.specs.Answers.{number}
 use Rattle.model.specs.Triggers.{State}
-use Rattle.model.specs.Work.{Mode, early}
+use Rattle.model.specs.Work.{early}
 use Rattle.model.specs.Step.{Out, step, run, ending}
 use Rattle.model.specs.Outcome.{state, listRoom}
 use Rattle.model.specs.File.{eventAt}
 use Rattle.model.specs.Text.{line}
 use Rattle.model.specs.Night.{linesFrom}
-use Rattle.model.specs.declared.event.Event.{Event}
 use Rattle.model.specs.declared.lane.Working.{Working}
+use Rattle.laws_list.proofs.Runs.{ending-snoc, run-snoc, length-run}
 use Rattle.text.specs.Buffer.{Puts}
 use Rattle.text.proofs.Laid.{laid-none, puts-then}
 use Rattle.replay.specs.Replay.{stateAfter, textAfter, Turns}
@@ -28,23 +28,6 @@ pub tab-snoc {ℓ} : {A : Type ℓ} (n : ℕ) (f : ℕ → A) → tab (suc n) f 
 unfolding tab
 tab-snoc zero f = refl
 tab-snoc (suc n) f = ap (λ l. f 0 ∷ l) (tab-snoc n (λ k. f (suc k)))
-
-module _ (mode : Mode) (room : ℕ) where
-  pub ending-snoc : (s : State) (es : List Event) (e : Event) → ending mode room s (es ++ (e ∷ [])) ≡ step mode room (ending mode room s es) e .state
-  unfolding ending
-  ending-snoc s [] e = refl
-  ending-snoc s (d ∷ es) e = ending-snoc (step mode room s d .state) es e
-
-  pub run-snoc : (s : State) (es : List Event) (e : Event)
-      → run mode room s (es ++ (e ∷ [])) ≡ run mode room s es ++ (step mode room (ending mode room s es) e ∷ [])
-  unfolding run ending
-  run-snoc s [] e = refl
-  run-snoc s (d ∷ es) e = ap (λ os. step mode room s d ∷ os) (run-snoc (step mode room s d .state) es e)
-
-  pub length-run : (s : State) (es : List Event) → length (run mode room s es) ≡ length es
-  unfolding run
-  length-run s [] = refl
-  length-run s (d ∷ es) = ap suc (length-run (step mode room s d .state) es)
 
 pub lines-snoc : (index : ℕ) (os : List Out) (o : Out)
     → linesFrom index (os ++ (o ∷ [])) ≡ linesFrom index os ++ line (index + length os) (number (o .answer)) (o .bytes)

@@ -1,0 +1,93 @@
+-- A list of events and a night file say the same: the promise of specs/SaySame.antt, kept. Assumes nothing.
+use mathlib.Core.Path.{_≡_, refl, sym, ap, _∙_}
+use mathlib.Core.Bool.{true, false}
+use mathlib.Core.List.{List, [], _∷_, _++_}
+use Prim.Native.Nat.{ℕ, suc, _+_, _*_, _≤_}
+use native.Mathlib.Omega.{arith}
+use lib.ListN.{length, take, drop, length-drop}
+use lib.Seq.{take-at, drop-at, length-take-le}
+use borrow.Author.Tests.{eqb-true, le-ltb}
+use Rattle.bits.specs.Choice.{pick}
+use Rattle.bits.proofs.Tests.{both-l, both-r}
+use Rattle.bits.proofs.Loops.{length-tab}
+use Rattle.model.specs.Answers.{number, isDone}
+use Rattle.model.specs.Work.{early}
+use Rattle.model.specs.Start.{started}
+use Rattle.model.specs.Refusals.{firstOf, isFlat, wrongLength, startRefusals, entryRefusals, listRefusals}
+use Rattle.model.specs.Step.{Out, ending}
+use Rattle.model.specs.Outcome.{laidOver, listRoom, numbersOf, listBy, listOutcome}
+use Rattle.model.specs.File.{recordCount, isWholeLength, imageIn, eventAt, eventsIn, isWellFormed, checked}
+use Rattle.model.specs.Text.{line}
+use Rattle.model.specs.Night.{linesFrom, nightOf, printedBy, printed}
+use Rattle.model.specs.declared.answer.Answer.the-variants.{Done}
+use Rattle.laws_sound.proofs.Reached.{never-refused}
+use Rattle.laws_list.specs.SaySame.{linesWith, shownIn, listCall, SaySame}
+use Rattle.laws_list.proofs.Runs.{length-run}
+use Rattle.laws_list.proofs.Admission.{list-good}
+
+-- the lines of steps are the lines with the steps' numbers and bytes
+lines-with : (index : ℕ) (os : List Out) → linesFrom index os ≡ linesWith index (numbersOf os) (shownIn os)
+unfolding linesFrom linesWith numbersOf shownIn
+lines-with index [] = refl
+lines-with index (o ∷ os) = ap (λ text. line index (number (o .answer)) (o .bytes) ++ text) (lines-with (suc index) os)
+
+length-numbers : (os : List Out) → length (numbersOf os) ≡ length os
+unfolding numbersOf
+length-numbers [] = refl
+length-numbers (o ∷ os) = ap suc (length-numbers os)
+
+-- numbers that lie over the front of a buffer, and the rest of it
+front : (ns answers : List ℕ) (n : ℕ) → length ns ≡ n → take n (laidOver ns answers) ≡ ns
+unfolding laidOver
+front ns answers n e = take-at ns _ n e
+
+behind : (ns answers : List ℕ) (n : ℕ) → length ns ≡ n → drop n (laidOver ns answers) ≡ drop n answers
+unfolding laidOver
+behind ns answers n e = drop-at ns _ n e ∙ ap (λ k. drop k answers) e
+
+module _ (file : List ℕ) (formed : isWellFormed file ≡ true) (paged : isFlat (imageIn file) ≡ false) where
+  file-length : length file ≡ 784 + 12 * recordCount file
+  unfolding isWellFormed isWholeLength
+  file-length = eqb-true _ _ (both-r _ _ (both-l _ _ formed))
+
+  image-length : length (imageIn file) ≡ 768
+  unfolding imageIn
+  image-length = length-take-le 768 (drop 16 file) (rw (length-drop 16 file) (omega (arith, file-length)))
+
+  starts : firstOf (startRefusals (imageIn file)) ≡ Done
+  unfolding startRefusals wrongLength firstOf pick
+  starts = rw (image-length, paged)
+
+  entered : firstOf (entryRefusals (started (imageIn file))) ≡ Done
+  unfolding ending
+  entered = never-refused listRoom (imageIn file) [] starts
+
+  count-is : length (eventsIn file) ≡ recordCount file
+  unfolding eventsIn
+  count-is = length-tab (recordCount file) (eventAt file)
+
+  numbers-length : length (numbersOf (nightOf file)) ≡ recordCount file
+  unfolding nightOf
+  numbers-length = length-numbers _ ∙ length-run early listRoom (started (imageIn file)) (eventsIn file) ∙ count-is
+
+  prints : printed file ≡ linesFrom 0 (nightOf file)
+  unfolding printed checked printedBy pick
+  prints = rw (formed, paged)
+
+  module _ (answers : List ℕ) (roomy : recordCount file ≤ length answers) where
+    admitted : firstOf (listRefusals (length answers) (started (imageIn file)) (length (eventsIn file))) ≡ Done
+    unfolding isDone
+    admitted = list-good (length answers) (started (imageIn file)) (length (eventsIn file)) (ap isDone entered) (rw count-is (le-ltb _ _ roomy))
+
+    called : listCall file answers .buffer ≡ laidOver (numbersOf (nightOf file)) answers
+    unfolding listOutcome listBy nightOf isDone pick
+    called = rw admitted
+
+    -- THE THEOREM: for every well-formed file whose image is not flat, and every answer buffer with room for its records
+    pub say-same : SaySame file answers
+    unfolding listOutcome listBy isDone pick
+    say-same = record {
+      taken = rw admitted;
+      same = prints ∙ lines-with 0 (nightOf file) ∙ ap (λ ns. linesWith 0 ns (shownIn (nightOf file))) (sym (ap (take (recordCount file)) called ∙ front _ answers _ numbers-length));
+      rest = ap (drop (recordCount file)) called ∙ behind _ answers _ numbers-length;
+    }

@@ -1,0 +1,2 @@
+-- A list of events and a night file say the same.
+pub mod SaySame

@@ -1,0 +1,32 @@
+-- THE PROMISE about lists and files: the answers that the list call gives for a file's records are those that the file's lines print.
+use mathlib.Core.Path.{_≡_}
+use mathlib.Core.List.{List, [], _∷_, _++_, map}
+use Prim.Native.Nat.{ℕ, suc}
+use lib.ListN.{take, drop}
+use Rattle.model.specs.Start.{started}
+use Rattle.model.specs.Step.{Out}
+use Rattle.model.specs.Outcome.{Outcome, listOutcome}
+use Rattle.model.specs.File.{recordCount, imageIn, eventsIn}
+use Rattle.model.specs.Text.{line}
+use Rattle.model.specs.Night.{nightOf, printed}
+use Rattle.model.specs.declared.answer.Answer.the-variants.{Done}
+
+-- lines from an index on: their answers' numbers, and the bytes that each shows
+unfoldable pub linesWith : ℕ → List ℕ → List (List ℕ) → List ℕ
+linesWith index [] shown = []
+linesWith index (a ∷ answers) [] = []
+linesWith index (a ∷ answers) (bytes ∷ shown) = line index a bytes ++ linesWith (suc index) answers shown
+
+-- what the reads of a night give
+unfoldable pub shownIn : List Out → List (List ℕ)
+shownIn os = map (λ o. o .bytes) os
+
+-- the list call on a file's records, from the file's image as it starts
+abbrev pub listCall : List ℕ → List ℕ → Outcome
+listCall file answers = listOutcome (started (imageIn file)) answers (eventsIn file)
+
+-- it is not refused; its answers, one for each record, are those of the printed lines; the rest of the buffer is as it was
+pub record SaySame (file answers : List ℕ) : Type 0 where
+  pub taken : listCall file answers .answer ≡ Done
+  pub same : printed file ≡ linesWith 0 (take (recordCount file) (listCall file answers .buffer)) (shownIn (nightOf file))
+  pub rest : drop (recordCount file) (listCall file answers .buffer) ≡ drop (recordCount file) answers

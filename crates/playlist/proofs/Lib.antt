@@ -1,0 +1,3 @@
+-- The laws of a list of events, and a slice lent again in a walk by hand.
+pub mod Again
+pub mod Laws

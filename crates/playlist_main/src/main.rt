@@ -1,0 +1,84 @@
+// Runs a list of four events from start, in a buffer with room and in one without, and writes the answers as digits.
+use libc::STDOUT_FILENO;
+use model::event::Call;
+use model::event::Event;
+
+// An answer's number as a character.
+fn digit(number: u8) -> u8 {
+    48 + number % 16
+}
+
+fn event(call: Call, bytes: [u8; 8]) -> Event {
+    Event { call, bytes }
+}
+
+// A write that is done, a read that is too long, a work step on an idle lane, and a sample of a lane that is not there.
+fn night() -> [Event; 4] {
+    let none = [0u8; 8];
+    let write = event(
+        Call::Write {
+            address: 127,
+            count: 1,
+        },
+        [17u8; 8],
+    );
+    let read = event(
+        Call::Read {
+            address: 0,
+            count: 129,
+        },
+        none,
+    );
+    let work = event(Call::Work { lane: 3 }, none);
+    let sample = event(
+        Call::Sample {
+            lane: 8,
+            power: 700,
+        },
+        none,
+    );
+    [write, read, work, sample]
+}
+
+// Room for six answers: four are given, and the rest of the buffer is as it was.
+fn with_room(image: &mut [u8]) {
+    let mut answers = [254u8; 6];
+    let started = registers::start(image);
+    let run = playlist::play_four(image, &mut answers, started.working, night());
+    let left = run.left;
+    let answer = left.answer;
+    let text = [
+        digit(answers[0]),
+        digit(answers[1]),
+        digit(answers[2]),
+        digit(answers[3]),
+        digit(answers[4]),
+        digit(answers[5]),
+        digit(answer.number()),
+        10,
+    ];
+    io::write_all(STDOUT_FILENO, &text);
+}
+
+// Room for three: the list is refused, and no answer is given.
+fn without_room(image: &mut [u8]) {
+    let mut answers = [254u8; 3];
+    let started = registers::start(image);
+    let run = playlist::play_four(image, &mut answers, started.working, night());
+    let left = run.left;
+    let answer = left.answer;
+    let text = [
+        digit(answers[0]),
+        digit(answers[1]),
+        digit(answers[2]),
+        digit(answer.number()),
+        10,
+    ];
+    io::write_all(STDOUT_FILENO, &text);
+}
+
+fn main() {
+    let mut image = [0u8; 768];
+    with_room(&mut image);
+    without_room(&mut image);
+}
