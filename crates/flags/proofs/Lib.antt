@@ -1,3 +1,4 @@
--- Searches for a flag bit, and the flag bytes of conditions.
+-- Flags against masks, the search for an unmasked flag bit, and the flag bytes of conditions.
+pub mod Unmasked
 pub mod Search
 pub mod Conditions

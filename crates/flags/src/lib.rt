@@ -2,8 +2,7 @@
 ghost use mathlib.Core.Path.{_≡_};
 ghost use Prim.Native.Nat.{_+_, _≤_, _<_};
 ghost use lib.ListN.{length};
-ghost use Rattle.bits.specs.Loop.{anyBelow};
-ghost use Rattle.model.specs.Flags.{isConditionFlag, conditionSet, power, raised, sampled, isUnmasked, interrupts, settled};
+ghost use Rattle.model.specs.Flags.{isConditionFlag, conditionSet, power, raised, sampled, interrupts, settled};
 use bits::Place;
 
 // Page 02h: the limits of received power, two bytes each, in 0.1 µW.
@@ -83,40 +82,16 @@ pub fn sample(image: &mut [u8], lane: u8, power: u16)
     raise(image, power < low_warning, LOW_WARNING_FLAG, lane);
 }
 
-// Whether bit b of flag byte k is 1 and its mask bit 0.
-pub fn is_unmasked(image: &[u8], k: usize, b: u8) -> bool
-    requires { ⌜ (length (now image) ≡ 768) × (k < 20) × (b < 8) ⌝ }
-    ensures { λ r. ⌜ r ≡ isUnmasked (now (image .entry)) k b ⌝ }
-{
-    let flag = bits::take_field(image[FLAG_BYTES + k], b, 1);
-    let mask = bits::take_field(image[FLAG_MASKS + k], b, 1);
-    (flag == 1) & (mask == 0)
-}
-
-// Whether flag byte k has such a bit.
-pub fn has_unmasked(image: &[u8], k: usize) -> bool
-    requires { ⌜ (length (now image) ≡ 768) × (k < 20) ⌝ }
-    ensures { λ r. ⌜ r ≡ anyBelow 8 (λ b. isUnmasked (now (image .entry)) k b) ⌝ }
-{
-    for b in 0..8u8 {
-        if is_unmasked(image, k, b) {
-            return true;
-        }
-    }
-    false
-}
-
-// Whether the interrupt is due.
+// Whether the interrupt is due: the flags that no mask bit covers, all bytes gathered in one.
 pub fn interrupts(image: &[u8]) -> bool
     requires { ⌜ length (now image) ≡ 768 ⌝ }
     ensures { λ r. ⌜ r ≡ interrupts (now (image .entry)) ⌝ }
 {
+    let mut due = 0u8;
     for k in 0..FLAG_BYTE_COUNT {
-        if has_unmasked(image, k) {
-            return true;
-        }
+        due = due | (image[FLAG_BYTES + k] & !image[FLAG_MASKS + k]);
     }
-    false
+    due != 0
 }
 
 // Lower 3.0: 0 exactly while the interrupt is due.

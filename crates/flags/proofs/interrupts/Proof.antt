@@ -1,31 +1,34 @@
 -- `flags::interrupts` meets its contract. Assumes nothing.
-use mathlib.Core.Path.{_≡_, sym, _∙_}
-use mathlib.Core.Bool.{false}
-use Prim.Native.Nat.{_≤_, _-_}
+use mathlib.Core.Path.{_≡_}
+use Prim.Native.Nat.{_+_, _-_, _≤_}
 use native.Mathlib.Omega.{arith}
 use borrow.Author.Needs.{needs}
-use Rattle.bits.specs.Loop.{anyBelow}
-use Rattle.bits.proofs.Loops.{any-one}
-use Rattle.model.specs.Flags.{isUnmasked, interrupts}
-use Rattle.flags.proofs.Search.{any-begin, any-pass}
+use Rattle.model.specs.Map.{flagBytes, flagMasks}
+use Rattle.model.specs.Flags.{interrupts}
+use Rattle.flags.proofs.Search.{Gathered, gathered-begin, gathered-turn}
 use Rattle.flags.proofs.interrupts.Statement.{statement}
 use Rattle.flags.proofs.interrupts.Tie as tie
 
 abbrev Inv-loop : tie.InvT-loop
-Inv-loop image k₀ k = (k ≤ 20) × (anyBelow k (λ j. anyBelow 8 (λ b. isUnmasked image j b)) ≡ false)
+Inv-loop image due₀ k₀ due k = (k ≤ 20) × Gathered image due k
 
 abbrev μ-loop : tie.MeasureT-loop
-μ-loop image k₀ k = 20 - k
+μ-loop image due₀ k₀ due k = 20 - k
 
 loop-holds : tie.Need-loop-holds Inv-loop μ-loop
-loop-holds c = (search needs, any-begin _)
+loop-holds c = (search needs, gathered-begin _)
 
-has-unmasked-requires : tie.Need-has-unmasked-requires Inv-loop μ-loop
-has-unmasked-requires c κs = search needs
+add-due : tie.Need-add-due Inv-loop μ-loop
+add-due c = search needs
 
-returns : tie.Need-returns Inv-loop μ-loop
-unfolding interrupts
-returns c = sym (any-one 20 _ _ (omega arith) (sym (c .before .has-unmasked .ensures) ∙ c .if1 .taken))
+shared-slice-read-due : tie.Need-shared-slice-read-due Inv-loop μ-loop
+shared-slice-read-due c = search needs
+
+add-due-2 : tie.Need-add-due-2 Inv-loop μ-loop
+add-due-2 c = search needs
+
+shared-slice-read-due-2 : tie.Need-shared-slice-read-due-2 Inv-loop μ-loop
+shared-slice-read-due-2 c = search needs
 
 add-k : tie.Need-add-k Inv-loop μ-loop
 add-k c = search needs
@@ -34,11 +37,18 @@ loop-less : tie.Need-loop-less Inv-loop μ-loop
 loop-less c = search needs
 
 loop-again : tie.Need-loop-again Inv-loop μ-loop
-loop-again c = (search needs, any-pass _ _ (c .before .before .before .loop .inv .1) (sym (c .before .has-unmasked .ensures) ∙ c .if1 .left))
+loop-again c =
+    let k = c .before .before .before .loop .k in (
+      search needs,
+      gathered-turn _ (c .before .before .before .loop .due) k
+          (omega (arith, c .shared-slice-known2 .given (flagBytes + k)))
+          (omega (arith, c .shared-slice-known2 .given (flagMasks + k)))
+          (c .before .before .before .loop .inv .1),
+    )
 
-returns-2 : tie.Need-returns-2 Inv-loop μ-loop
+returns : tie.Need-returns Inv-loop μ-loop
 unfolding interrupts
-returns-2 c = let e : c .before .loop .k ≡ 20 = omega arith in sym (rw e at (c .before .loop .inv .1))
+returns c = let e : c .before .loop .k ≡ 20 = omega arith in rw e at (c .before .loop .inv .1)
 
 pub interrupts-spec : {M : Type 1} → statement M
 interrupts-spec =
@@ -47,9 +57,11 @@ interrupts-spec =
     Inv-loop
     μ-loop
     loop-holds
-    has-unmasked-requires
-    returns
+    add-due
+    shared-slice-read-due
+    add-due-2
+    shared-slice-read-due-2
     add-k
     loop-less
     loop-again
-    returns-2)
+    returns)
