@@ -224,7 +224,6 @@ fn admit<'a>(
     image: &'a mut [u8],
     lanes: &'a mut [LaneRecord; LANES],
 ) -> Result<Module<'a>, u8> {
-    use std::convert::TryFrom;
     let image = match <&mut [u8; IMAGE_LEN]>::try_from(image) {
         Ok(image) => image,
         Err(_) => return Err(answer::IMAGE_LENGTH),
