@@ -45,7 +45,7 @@ pub fn condition(image: &mut [u8], flag: u8, mask: u8)
     requires { ⌜ (length (now image) ≡ 768) × (128 ≤ flag) ⌝ }
     ensures { λ _. ⌜ now (image .exit) ≡ conditionSet flag mask (now (image .entry)) ⌝ }
 {
-    bits::put_each(image, map::on(map::PAGE_11, flag), 1, mask, 1)
+    lanes::put_each(image, map::on(map::PAGE_11, flag), 1, mask, 1)
 }
 
 // A lane's bit of a flag byte, set where the test holds.
@@ -54,7 +54,7 @@ pub fn raise(image: &mut [u8], test: bool, flag: u8, lane: u8)
     ensures { λ _. ⌜ now (image .exit) ≡ raised test flag lane (now (image .entry)) ⌝ }
 {
     if test {
-        bits::put_lane_bit(image, map::on(map::PAGE_11, flag), lane, 1);
+        lanes::put_lane_bit(image, map::on(map::PAGE_11, flag), lane, 1);
     }
 }
 
@@ -63,7 +63,7 @@ pub fn limit(image: &[u8], at: usize) -> u16
     requires { ⌜ at + 2 ≤ length (now image) ⌝ }
     ensures { λ r. ⌜ r ≡ power (now (image .entry)) at ⌝ }
 {
-    bits::word2(image, at)
+    words::word2(image, at)
 }
 
 // A sample of received power: stored, and compared with the four limits.
@@ -75,7 +75,7 @@ pub fn sample(image: &mut [u8], lane: u8, power: u16)
     let low_alarm = limit(image, LOW_ALARM);
     let high_warning = limit(image, HIGH_WARNING);
     let low_warning = limit(image, LOW_WARNING);
-    bits::put_word2(image, RECEIVED_POWER + 2 * (lane as usize), power);
+    words::put_word2(image, RECEIVED_POWER + 2 * (lane as usize), power);
     raise(image, high_alarm < power, HIGH_ALARM_FLAG, lane);
     raise(image, power < low_alarm, LOW_ALARM_FLAG, lane);
     raise(image, high_warning < power, HIGH_WARNING_FLAG, lane);

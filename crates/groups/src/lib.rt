@@ -29,7 +29,7 @@ fn is_in_group(image: &[u8], base: usize, selected: u8, lane: u8, other: u8) -> 
     requires { ⌜ (length (now image) ≡ 768) × (base + 29 ≤ 768) × (lane < 8) × (other < 8) ⌝ }
     ensures { λ r. ⌜ r ≡ inGroup (viewOf base (now (image .entry))) selected lane other ⌝ }
 {
-    if !bits::is_in(selected, other) {
+    if !sets::is_in(selected, other) {
         return false;
     }
     if paths::used_at(image, base, lane) {
@@ -46,7 +46,7 @@ pub fn group_of(image: &[u8], base: usize, selected: u8, lane: u8) -> u8
     let mut group: u8 = 0;
     for other in 0..8u8 {
         let joins = is_in_group(image, base, selected, lane, other);
-        group = bits::with_lane(group, other, joins);
+        group = sets::with_lane(group, other, joins);
     }
     group
 }

@@ -16,8 +16,7 @@ use Rattle.model.specs.Triggers.{State}
 use Rattle.model.specs.Work.{withPending}
 use Rattle.model.specs.Hardware.{toDeinit, toReinit, nextState, isState, withState, withFlags, initialized, entered, moved, movedPath, hardwareMoved}
 use Rattle.model.specs.Flags.{settled}
-use Rattle.model.specs.Step.{carried, done}
-use Rattle.model.specs.Cases.{event}
+use Rattle.model.specs.Step.{event, carried, done}
 use Rattle.model.specs.declared.answer.Answer.the-variants.{Done}
 use Rattle.model.specs.declared.event.Call.the-variants.{Hardware}
 use Rattle.model.specs.declared.path.PathState.{PathState}

@@ -16,8 +16,7 @@ use Rattle.model.specs.Triggers.{State}
 use Rattle.model.specs.Pages.{findPage, pagePlace, placeOf, withPage, pageSelected}
 use Rattle.model.specs.Access.{stored, byteWritten, bytesWritten}
 use Rattle.model.specs.Flags.{settled}
-use Rattle.model.specs.Step.{carried, done}
-use Rattle.model.specs.Cases.{event}
+use Rattle.model.specs.Step.{event, carried, done}
 use Rattle.model.specs.declared.answer.Answer.the-variants.{Done}
 use Rattle.model.specs.declared.event.Call.the-variants.{Write}
 use Rattle.model.specs.declared.page.PagePlace.the-variants.{Unsupported, At}

@@ -14,8 +14,7 @@ use Rattle.model.specs.Map.{Image, clearing}
 use Rattle.model.specs.Triggers.{State}
 use Rattle.model.specs.Pages.{placeOf}
 use Rattle.model.specs.Access.{cleared}
-use Rattle.model.specs.Step.{carried, done, readAt}
-use Rattle.model.specs.Cases.{event}
+use Rattle.model.specs.Step.{event, carried, done, readAt}
 use Rattle.model.specs.declared.answer.Answer.the-variants.{Done}
 use Rattle.model.specs.declared.event.Call.the-variants.{Read}
 use Rattle.laws_step.specs.Changes.{ChangesOnly, orIn, inBytes, interruptSet}

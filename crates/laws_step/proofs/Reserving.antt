@@ -23,8 +23,7 @@ use Rattle.model.specs.Lanes.{stageAt, isInProgress}
 use Rattle.model.specs.Triggers.{State}
 use Rattle.model.specs.Work.{early}
 use Rattle.model.specs.Refusals.{refuse, noSuchLane, eventRefusals}
-use Rattle.model.specs.Step.{step}
-use Rattle.model.specs.Cases.{event}
+use Rattle.model.specs.Step.{event, step}
 use Rattle.model.specs.declared.answer.Answer.the-variants.{Done, NoSuchPlace, NothingToDo}
 use Rattle.model.specs.declared.event.Call.{Call}
 use Rattle.model.specs.declared.event.Call.the-variants.{Write, Read, Work, Hardware, Condition, Sample}

@@ -25,8 +25,7 @@ use Rattle.model.specs.Triggers.{State}
 use Rattle.model.specs.Flags.{isConditionFlag, conditionSet, power, raised, sampled, settled}
 use Rattle.model.specs.Refusals.{noSuchLane, eventRefusals}
 use Rattle.model.specs.Answers.{isDone}
-use Rattle.model.specs.Step.{carried, done}
-use Rattle.model.specs.Cases.{event}
+use Rattle.model.specs.Step.{event, carried, done}
 use Rattle.model.specs.declared.answer.Answer.the-variants.{Done, NoSuchPlace}
 use Rattle.model.specs.declared.event.Call.the-variants.{Condition, Sample}
 use Rattle.laws_step.specs.Changes.{ChangesOnly, orIn, inBytes, interruptSet, flagSet}

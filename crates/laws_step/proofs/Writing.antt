@@ -16,8 +16,7 @@ use Rattle.model.specs.Pages.{placeOf}
 use Rattle.model.specs.Access.{bytesWritten, halfEnd, isBadAccess}
 use Rattle.model.specs.Answers.{isDone}
 use Rattle.model.specs.Refusals.{eventRefusals}
-use Rattle.model.specs.Step.{carried, done}
-use Rattle.model.specs.Cases.{event}
+use Rattle.model.specs.Step.{event, carried, done}
 use Rattle.model.specs.declared.answer.Answer.the-variants.{Done, BadAccess}
 use Rattle.model.specs.declared.event.Call.the-variants.{Write}
 use Rattle.laws_step.specs.Changes.{ChangesOnly, orIn, interruptSet}

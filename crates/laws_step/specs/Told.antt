@@ -19,8 +19,7 @@ use Rattle.model.specs.Work.{early, isRelease, written}
 use Rattle.model.specs.Hardware.{isState, initialized}
 use Rattle.model.specs.Flags.{power, settled}
 use Rattle.model.specs.Pages.{placeOf}
-use Rattle.model.specs.Step.{Out, step}
-use Rattle.model.specs.Cases.{event}
+use Rattle.model.specs.Step.{event, Out, step}
 use Rattle.model.specs.declared.event.Call.{Call}
 use Rattle.model.specs.declared.event.Call.the-variants.{Work}
 use Rattle.model.specs.declared.lane.Trigger.{Trigger}

@@ -22,4 +22,3 @@ pub mod Outcome
 pub mod File
 pub mod Text
 pub mod Night
-pub mod Cases

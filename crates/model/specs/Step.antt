@@ -18,6 +18,10 @@ use Rattle.model.specs.declared.event.Call.{Call}
 use Rattle.model.specs.declared.event.Call.the-variants.{Write, Read, Work, Hardware, Condition, Sample}
 use Rattle.model.specs.declared.event.Event.{Event}
 
+-- an event: a call, and the bytes that a write carries
+abbrev pub event : Call → List ℕ → Event
+event call bytes = record { call = call; bytes = bytes }
+
 -- n bytes read from place i on
 unfoldable pub readAt : State → ℕ → ℕ → Carried
 readAt s i n = record { state = withImage s (cleared (s .image) i n); bytes = taken (s .image) i n; mask = 0 }

@@ -49,9 +49,9 @@ fn is_header(file: &[u8]) -> bool
 {
     let letters = (file[0] == LETTER_W) & (file[1] == LETTER_L);
     let edition = (file[2] == EDITION) & (file[3] == 0);
-    let count = bits::word4(file, COUNT_AT);
-    let image_at = bits::word4(file, 8);
-    let records_at = bits::word4(file, 12);
+    let count = words::word4(file, COUNT_AT);
+    let image_at = words::word4(file, 8);
+    let records_at = words::word4(file, 12);
     letters & (edition & ((count <= RECORD_LIMIT) & ((image_at == 16) & (records_at == 784))))
 }
 
@@ -62,7 +62,7 @@ fn is_framed(file: &[u8]) -> bool
     if file.len() < RECORDS_OFFSET {
         return false;
     }
-    let count = bits::word4(file, COUNT_AT) as usize;
+    let count = words::word4(file, COUNT_AT) as usize;
     let whole = file.len() == RECORDS_OFFSET + RECORD_LENGTH * count;
     is_header(file) & whole
 }
@@ -138,7 +138,7 @@ pub fn check(file: &[u8]) -> FileCheck
     if !is_framed(file) {
         return FileCheck::Malformed;
     }
-    let count = bits::word4(file, COUNT_AT);
+    let count = words::word4(file, COUNT_AT);
     if !are_records(file, count) {
         return FileCheck::Malformed;
     }

@@ -21,7 +21,7 @@ pub fn app_at(image: &[u8], base: usize, lane: u8) -> u8
     requires { ⌜ (base + 8 ≤ length (now image)) × (lane < 8) ⌝ }
     ensures { λ r. ⌜ r ≡ appSel (of (settingsOf base (now (image .entry))) lane) ⌝ }
 {
-    bits::take_field(bits::lane_byte(image, base, lane), 4, 4)
+    bits::take_field(lanes::lane_byte(image, base, lane), 4, 4)
 }
 
 // A lane's DataPathID in the set at a base.
@@ -29,7 +29,7 @@ pub fn id_at(image: &[u8], base: usize, lane: u8) -> u8
     requires { ⌜ (base + 8 ≤ length (now image)) × (lane < 8) ⌝ }
     ensures { λ r. ⌜ r ≡ pathId (of (settingsOf base (now (image .entry))) lane) ⌝ }
 {
-    bits::take_field(bits::lane_byte(image, base, lane), 1, 3)
+    bits::take_field(lanes::lane_byte(image, base, lane), 1, 3)
 }
 
 // Whether a lane is used in the set at a base.
@@ -57,7 +57,7 @@ pub fn path_of(image: &[u8], lane: u8) -> u8
     let mut path: u8 = 0;
     for other in 0..8u8 {
         let joined = same_path(image, lane, other);
-        path = bits::with_lane(path, other, joined);
+        path = sets::with_lane(path, other, joined);
     }
     path
 }
@@ -158,7 +158,7 @@ fn clear_pending(image: &mut [u8], path: u8, from: PathState, to: PathState)
     ensures { λ _. ⌜ now (image .exit) ≡ onlyIf (initialized from to) (withPending (has path) 0) (now (image .entry)) ⌝ }
 {
     if is_initialized(from, to) {
-        bits::put_each(image, map::PENDING, 1, path, 0);
+        lanes::put_each(image, map::PENDING, 1, path, 0);
     }
 }
 
@@ -168,7 +168,7 @@ fn flag_change(image: &mut [u8], path: u8, to: PathState)
     ensures { λ _. ⌜ now (image .exit) ≡ onlyIf (resting to) (withFlags stateChanged path) (now (image .entry)) ⌝ }
 {
     if is_resting(to) {
-        bits::put_each(image, map::STATE_CHANGED, 1, path, 1);
+        lanes::put_each(image, map::STATE_CHANGED, 1, path, 1);
     }
 }
 
@@ -177,7 +177,7 @@ fn enter(image: &mut [u8], path: u8, from: PathState, to: PathState)
     requires { ⌜ length (now image) ≡ 768 ⌝ }
     ensures { λ _. ⌜ now (image .exit) ≡ entered path from to (now (image .entry)) ⌝ }
 {
-    bits::put_each(image, map::STATES, 4, path, to.code());
+    lanes::put_each(image, map::STATES, 4, path, to.code());
     clear_pending(image, path, from, to);
     flag_change(image, path, to);
 }
@@ -198,7 +198,7 @@ pub fn move_path(image: &mut [u8], lane: u8)
     ensures { λ _. ⌜ now (image .exit) ≡ hardwareMoved (now (image .entry)) lane ⌝ }
 {
     let path = path_of(image, lane);
-    let from = PathState::of(bits::nibble(image, map::STATES, lane));
+    let from = PathState::of(lanes::nibble(image, map::STATES, lane));
     let to = next_state(from, to_deinit(image, path), to_reinit(image, path));
     move_to(image, path, from, to);
 }

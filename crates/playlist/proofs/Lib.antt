@@ -1,3 +1,2 @@
--- The laws of a list of events, and a slice lent again in a walk by hand.
+-- A slice lent again in a walk by hand.
 pub mod Again
-pub mod Laws

@@ -1,84 +1,18 @@
-// A night as a list of events: 1, 2, 3 and 5 asked once for the whole list, then every event, and its answer's number into a lent buffer.
+// A night as a list of events.
 // The loop's whole state is one struct by value, so that the loop itself has a test, the loans, the event and one call.
 ghost use mathlib.Core.Path.{_≡_};
-ghost use Prim.Native.Nat.{_≤_, _<_};
-ghost use lib.ListN.{length};
 ghost use Rattle.model.specs.Outcome.{Leaves, state, listOutcome};
-ghost use Rattle.playlist.specs.Playlist.{Playing, beginOf, turnOf, refusedRun};
-use model::answer::Answer;
-use model::answer::Left;
 use model::event::Event;
 use model::lane::Working;
-
-// The most bytes that a read gives.
-const READ_LIMIT: usize = 128;
-
-// Where a list stands: what it leaves so far, the events done, and how many are to be done.
-pub struct Run {
-    pub left: Left,
-    pub at: usize,
-    pub end: usize,
-}
-
-// A list that is refused: none of its events is to be done.
-fn refused(answer: Answer, w: Working) -> Run
-    ensures { λ r. ⌜ r ≡ refusedRun answer w ⌝ }
-{
-    let left = steps::reply(answer, w);
-    Run {
-        left,
-        at: 0,
-        end: 0,
-    }
-}
-
-// The admission of a list of n events.
-pub fn begin<'a>(image: &'a mut [u8], answers: &'a mut [u8], w: Working, n: usize) -> Run
-    ensures { λ r. ⌜ record { image = now (image .exit); answers = now (answers .exit); r = r } ≡ beginOf n (now (image .entry)) (now (answers .entry)) w ⌝ }
-{
-    let answer = registers::entry(image, w);
-    if answer.number() != 0 {
-        return refused(answer, w);
-    }
-    if answers.len() < n {
-        return refused(Answer::ShortBuffer, w);
-    }
-    let left = steps::reply(Answer::Done, w);
-    Run {
-        left,
-        at: 0,
-        end: n,
-    }
-}
-
-// One event, and its answer's number; the bytes of a read are dropped.
-pub fn turn<'a>(image: &'a mut [u8], answers: &'a mut [u8], r: Run, event: Event) -> Run
-    requires { ⌜ (length (now image) ≡ 768) × (r .at < r .end) × (r .end ≤ length (now answers)) ⌝ }
-    ensures { λ q. ⌜ record { image = now (image .exit); answers = now (answers .exit); r = q } ≡ turnOf event (record { image = now (image .entry); answers = now (answers .entry); r = r }) ⌝ }
-{
-    let at = r.at;
-    let before = r.left;
-    let admitted = before.answer;
-    let mut bytes = [0u8; READ_LIMIT];
-    let stepped = steps::step(image, before.working, event, &mut bytes);
-    let answer = stepped.answer;
-    let working = stepped.working;
-    let left = steps::reply(admitted, working);
-    answers[at] = answer.number();
-    Run {
-        left,
-        at: at + 1,
-        end: r.end,
-    }
-}
+use turns::Run;
 
 // The list. By hand: a loop over a slice of structs.
 pub fn play(image: &mut [u8], answers: &mut [u8], w: Working, events: &[Event]) -> Run
     ensures { λ r. ⌜ Leaves (listOutcome (state (now (image .entry)) w) (now (answers .entry)) (now (events .entry))) (r .left) (now (image .exit)) (now (answers .exit)) ⌝ }
 {
-    let mut r = begin(image, answers, w, events.len());
+    let mut r = turns::begin(image, answers, w, events.len());
     while r.at < r.end {
-        r = turn(image, answers, r, events[r.at]);
+        r = turns::turn(image, answers, r, events[r.at]);
     }
     r
 }

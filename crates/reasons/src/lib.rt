@@ -32,7 +32,7 @@ pub fn has_other_app_sel(image: &[u8], base: usize, group: u8, app: u8) -> bool
     let mut other = false;
     for lane in 0..8u8 {
         let differs = paths::app_at(image, base, lane) != app;
-        other = other | (bits::is_in(group, lane) & differs);
+        other = other | (sets::is_in(group, lane) & differs);
     }
     other
 }
@@ -51,7 +51,7 @@ fn has_lane_outside(first: u8, count: u8, group: u8) -> bool
     let mut outside = false;
     for lane in 0..8u8 {
         let beyond = !is_within(first, count, lane);
-        outside = outside | (bits::is_in(group, lane) & beyond);
+        outside = outside | (sets::is_in(group, lane) & beyond);
     }
     outside
 }
@@ -63,7 +63,7 @@ pub fn is_misplaced(d: Descriptor, first: u8, group: u8) -> bool
 {
     let count = d.count;
     let past = 8 < (first as u16) + (count as u16);
-    !bits::is_in(d.firsts, first) | (past | has_lane_outside(first, count, group))
+    !sets::is_in(d.firsts, first) | (past | has_lane_outside(first, count, group))
 }
 
 // Whether a lane that the Application takes is not in the group.
@@ -74,7 +74,7 @@ pub fn is_incomplete(d: Descriptor, first: u8, group: u8) -> bool
     let mut missing = false;
     for lane in 0..8u8 {
         let taken = is_within(first, count, lane);
-        missing = missing | (taken & !bits::is_in(group, lane));
+        missing = missing | (taken & !sets::is_in(group, lane));
     }
     missing
 }
@@ -84,7 +84,7 @@ fn crosses(image: &[u8], group: u8, lane: u8) -> bool
     requires { ⌜ (length (now image) ≡ 768) × (lane < 8) ⌝ }
     ensures { λ r. ⌜ r ≡ both (has group lane) (both (isUsed (of (settingsOf activeSet (now (image .entry))) lane)) (not (eqb (pathOf (settingsOf activeSet (now (image .entry))) lane) group))) ⌝ }
 {
-    if !bits::is_in(group, lane) {
+    if !sets::is_in(group, lane) {
         return false;
     }
     if !paths::used_at(image, ACTIVE_SET, lane) {
@@ -111,7 +111,7 @@ fn is_refused(supported: u8, amplitude: u8) -> bool
     if HIGHEST_AMPLITUDE < amplitude {
         return true;
     }
-    !bits::is_in(supported, amplitude)
+    !sets::is_in(supported, amplitude)
 }
 
 // Whether a lane has ExplicitControl 1 and a setting staged that the module does not offer.
@@ -134,7 +134,7 @@ fn exceeds(image: &[u8], base: usize, group: u8, lane: u8) -> bool
     requires { ⌜ (length (now image) ≡ 768) × (base + 29 ≤ 768) × (lane < 8) ⌝ }
     ensures { λ r. ⌜ r ≡ both (has group lane) (outOfLimits (limitsOf (now (image .entry))) (of (settingsOf base (now (image .entry))) lane)) ⌝ }
 {
-    if !bits::is_in(group, lane) {
+    if !sets::is_in(group, lane) {
         return false;
     }
     is_out_of_limits(image, base, lane)
@@ -156,9 +156,9 @@ fn state_of(image: &[u8], group: u8) -> u8
     requires { ⌜ length (now image) ≡ 768 ⌝ }
     ensures { λ r. ⌜ r ≡ stateIn (statesOf (now (image .entry))) (firstIn group) ⌝ }
 {
-    let first = bits::next_in(group, 0);
+    let first = sets::next_in(group, 0);
     if first < 8 {
-        return bits::nibble(image, map::STATES, first);
+        return lanes::nibble(image, map::STATES, first);
     }
     0
 }

@@ -30,14 +30,14 @@ pub fn settings_at(image: &[u8], base: usize, lane: u8) -> Settings
     ensures { λ r. ⌜ r ≡ settingsAt base (now (image .entry)) lane ⌝ }
 {
     Settings {
-        config: bits::lane_byte(image, base + CONFIG, lane),
-        adaptive: bits::lane_bit(image, base + ADAPTIVE, lane),
-        equalizer: bits::nibble(image, base + EQUALIZER, lane),
-        cdr_tx: bits::lane_bit(image, base + CDR_TX, lane),
-        cdr_rx: bits::lane_bit(image, base + CDR_RX, lane),
-        pre: bits::nibble(image, base + PRE, lane),
-        post: bits::nibble(image, base + POST, lane),
-        amplitude: bits::nibble(image, base + AMPLITUDE, lane),
+        config: lanes::lane_byte(image, base + CONFIG, lane),
+        adaptive: lanes::lane_bit(image, base + ADAPTIVE, lane),
+        equalizer: lanes::nibble(image, base + EQUALIZER, lane),
+        cdr_tx: lanes::lane_bit(image, base + CDR_TX, lane),
+        cdr_rx: lanes::lane_bit(image, base + CDR_RX, lane),
+        pre: lanes::nibble(image, base + PRE, lane),
+        post: lanes::nibble(image, base + POST, lane),
+        amplitude: lanes::nibble(image, base + AMPLITUDE, lane),
     }
 }
 
@@ -46,10 +46,10 @@ fn put_first(image: &mut [u8], lane: u8, h: Settings)
     requires { ⌜ (length (now image) ≡ 768) × (lane < 8) ⌝ }
     ensures { λ _. ⌜ now (image .exit) ≡ withPart 0 4 h lane (now (image .entry)) ⌝ }
 {
-    bits::put_lane_byte(image, map::ACTIVE_SET + CONFIG, lane, h.config);
-    bits::put_lane_bit(image, map::ACTIVE_SET + ADAPTIVE, lane, h.adaptive);
-    bits::put_nibble(image, map::ACTIVE_SET + EQUALIZER, lane, h.equalizer);
-    bits::put_lane_bit(image, map::ACTIVE_SET + CDR_TX, lane, h.cdr_tx);
+    lanes::put_lane_byte(image, map::ACTIVE_SET + CONFIG, lane, h.config);
+    lanes::put_lane_bit(image, map::ACTIVE_SET + ADAPTIVE, lane, h.adaptive);
+    lanes::put_nibble(image, map::ACTIVE_SET + EQUALIZER, lane, h.equalizer);
+    lanes::put_lane_bit(image, map::ACTIVE_SET + CDR_TX, lane, h.cdr_tx);
 }
 
 // The other four.
@@ -57,10 +57,10 @@ fn put_rest(image: &mut [u8], lane: u8, h: Settings)
     requires { ⌜ (length (now image) ≡ 768) × (lane < 8) ⌝ }
     ensures { λ _. ⌜ now (image .exit) ≡ withPart 4 4 h lane (now (image .entry)) ⌝ }
 {
-    bits::put_lane_bit(image, map::ACTIVE_SET + CDR_RX, lane, h.cdr_rx);
-    bits::put_nibble(image, map::ACTIVE_SET + PRE, lane, h.pre);
-    bits::put_nibble(image, map::ACTIVE_SET + POST, lane, h.post);
-    bits::put_nibble(image, map::ACTIVE_SET + AMPLITUDE, lane, h.amplitude);
+    lanes::put_lane_bit(image, map::ACTIVE_SET + CDR_RX, lane, h.cdr_rx);
+    lanes::put_nibble(image, map::ACTIVE_SET + PRE, lane, h.pre);
+    lanes::put_nibble(image, map::ACTIVE_SET + POST, lane, h.post);
+    lanes::put_nibble(image, map::ACTIVE_SET + AMPLITUDE, lane, h.amplitude);
 }
 
 // Every active setting of a lane replaced.

@@ -24,7 +24,7 @@ fn status_tells(image: &[u8], w: Working, lane: u8) -> bool
     requires { ⌜ (length (now image) ≡ 768) × (lane < 8) ⌝ }
     ensures { λ r. ⌜ r ≡ statusTells (now (image .entry)) w lane ⌝ }
 {
-    let told = bits::nibble(image, map::STATUSES, lane) == Status::IN_PROGRESS;
+    let told = lanes::nibble(image, map::STATUSES, lane) == Status::IN_PROGRESS;
     let kept = stages::is_in_progress(stages::stage_at(w, lane));
     (told & kept) | (!told & !kept)
 }
@@ -40,7 +40,7 @@ fn share_active(image: &[u8], set: u8, lane: u8) -> bool
     for other in 0..8u8 {
         let same_app = paths::app_at(image, ACTIVE_SET, other) == app;
         let same_id = paths::id_at(image, ACTIVE_SET, other) == id;
-        all = all & (!bits::is_in(set, other) | (same_app & same_id));
+        all = all & (!sets::is_in(set, other) | (same_app & same_id));
     }
     (app != 0) & all
 }
@@ -57,7 +57,7 @@ fn share_held(w: Working, set: u8, lane: u8) -> bool
     for other in 0..8u8 {
         let held = stages::held_at(w, other);
         let same = (settings::app_sel(held) == app) & (settings::path_id(held) == id);
-        all = all & (!bits::is_in(set, other) | same);
+        all = all & (!sets::is_in(set, other) | same);
     }
     (app != 0) & all
 }
@@ -70,7 +70,7 @@ fn lanes_from(first: u8, count: u8) -> u8
     let mut set: u8 = 0;
     for lane in 0..8u8 {
         let inside = (first <= lane) & ((lane as u32) < end);
-        set = bits::with_lane(set, lane, inside);
+        set = sets::with_lane(set, lane, inside);
     }
     set
 }
@@ -85,7 +85,7 @@ fn fills(found: Lookup, first: u8, set: u8) -> bool
         Lookup::Found(d) => {
             let end = (first as u32) + (d.count as u32);
             let all = lanes_from(first, d.count);
-            bits::is_in(d.firsts, first) & ((end <= 8) & (set == all))
+            sets::is_in(d.firsts, first) & ((end <= 8) & (set == all))
         }
     }
 }
@@ -125,11 +125,11 @@ fn agree_on_state(image: &[u8], set: u8, lane: u8) -> bool
     requires { ⌜ (length (now image) ≡ 768) × (lane < 8) ⌝ }
     ensures { λ r. ⌜ r ≡ agreeOnState (statesOf (now (image .entry))) set lane ⌝ }
 {
-    let own = bits::nibble(image, map::STATES, lane);
+    let own = lanes::nibble(image, map::STATES, lane);
     let mut all = true;
     for other in 0..8u8 {
-        let state = bits::nibble(image, map::STATES, other);
-        all = all & (!bits::is_in(set, other) | (state == own));
+        let state = lanes::nibble(image, map::STATES, other);
+        all = all & (!sets::is_in(set, other) | (state == own));
     }
     all
 }
@@ -140,7 +140,7 @@ fn in_whole_path(image: &[u8], lane: u8) -> bool
     ensures { λ r. ⌜ r ≡ inWholePath (viewOf stagedSet0 (now (image .entry))) lane ⌝ }
 {
     let path = paths::path_of(image, lane);
-    let state = bits::nibble(image, map::STATES, lane);
+    let state = lanes::nibble(image, map::STATES, lane);
     let possible = (PathState::DEACTIVATED <= state) & (state <= PathState::INITIALIZED);
     active_path(image, path, lane, path) & (agree_on_state(image, path, lane) & possible)
 }
@@ -150,8 +150,8 @@ fn is_at_rest(image: &[u8], lane: u8) -> bool
     requires { ⌜ (length (now image) ≡ 768) × (lane < 8) ⌝ }
     ensures { λ r. ⌜ r ≡ isAtRest (now (image .entry)) (viewOf stagedSet0 (now (image .entry))) lane ⌝ }
 {
-    let state = bits::nibble(image, map::STATES, lane);
-    let pending = bits::lane_bit(image, map::PENDING, lane);
+    let state = lanes::nibble(image, map::STATES, lane);
+    let pending = lanes::lane_bit(image, map::PENDING, lane);
     (state == PathState::DEACTIVATED) & (pending == 0)
 }
 
@@ -175,7 +175,7 @@ fn has_purpose(image: &[u8], w: Working, group: u8) -> bool
     if stages::is_release(w, group) {
         return true;
     }
-    let first = bits::next_in(group, 0);
+    let first = sets::next_in(group, 0);
     held_path(image, w, group, first, group)
 }
 
@@ -184,11 +184,11 @@ fn rests(image: &[u8], w: Working, group: u8) -> bool
     requires { ⌜ length (now image) ≡ 768 ⌝ }
     ensures { λ r. ⌜ r ≡ rests (viewOf stagedSet0 (now (image .entry))) w group ⌝ }
 {
-    let first = bits::next_in(group, 0);
+    let first = sets::next_in(group, 0);
     if first == LaneRecord::COUNT {
         return false;
     }
-    let state = bits::nibble(image, map::STATES, first);
+    let state = lanes::nibble(image, map::STATES, first);
     let resting = paths::is_resting(PathState::of(state));
     let released = !stages::is_release(w, group) | (state == PathState::DEACTIVATED);
     agree_on_state(image, group, first) & (resting & released)
@@ -226,7 +226,7 @@ fn holds_copied(image: &[u8], w: Working, group: u8, n: u8) -> bool
     let mut all = true;
     for lane in 0..8u8 {
         let copied = is_copied(image, w, lane);
-        all = all & (!bits::is_in(group, lane) | (!(lane < n) | copied));
+        all = all & (!sets::is_in(group, lane) | (!(lane < n) | copied));
     }
     all
 }
@@ -237,8 +237,8 @@ fn not_copied(group: u8, n: u8) -> u8
 {
     let mut rest: u8 = 0;
     for lane in 0..8u8 {
-        let left = bits::is_in(group, lane) & (n <= lane);
-        rest = bits::with_lane(rest, lane, left);
+        let left = sets::is_in(group, lane) & (n <= lane);
+        rest = sets::with_lane(rest, lane, left);
     }
     rest
 }
@@ -251,7 +251,7 @@ fn some_used(image: &[u8], set: u8) -> bool
     let mut some = false;
     for lane in 0..8u8 {
         let used = paths::used_at(image, ACTIVE_SET, lane);
-        some = some | (bits::is_in(set, lane) & used);
+        some = some | (sets::is_in(set, lane) & used);
     }
     some
 }
@@ -265,7 +265,7 @@ fn rest_is_whole(image: &[u8], group: u8, n: u8) -> bool
     if !some_used(image, rest) {
         return true;
     }
-    let first = bits::next_in(group, n);
+    let first = sets::next_in(group, n);
     active_path(image, rest, first, group)
 }
 

@@ -99,7 +99,7 @@ pub fn is_release(w: Working, group: u8) -> bool
     let mut used = false;
     for lane in 0..8u8 {
         let held = held_at(w, lane);
-        used = used | (bits::is_in(group, lane) & settings::is_used(held));
+        used = used | (sets::is_in(group, lane) & settings::is_used(held));
     }
     !used
 }
@@ -176,7 +176,7 @@ fn all_agree(w: Working, p: Progress) -> bool
     let mut all = true;
     for lane in 0..8u8 {
         let agreed = agrees(p, stage_at(w, lane));
-        all = all & (!bits::is_in(p.group, lane) | agreed);
+        all = all & (!sets::is_in(p.group, lane) | agreed);
     }
     all
 }
@@ -199,7 +199,7 @@ fn is_lane_of(group: u8, n: u8) -> bool
     ensures { λ r. ⌜ r ≡ both (ltb n 8) (has group n) ⌝ }
 {
     if n < LaneRecord::COUNT {
-        bits::is_in(group, n)
+        sets::is_in(group, n)
     } else {
         false
     }
@@ -225,7 +225,7 @@ pub fn stage_fits(w: Working, lane: u8, stage: Stage) -> bool
         Stage::InProgress(p) => {
             let held = p.held;
             let verdict = p.verdict;
-            (bits::is_in(p.group, lane) & all_agree(w, p))
+            (sets::is_in(p.group, lane) & all_agree(w, p))
                 & (settings_fit(held) & verdict_fits(p.group, verdict))
         }
     }

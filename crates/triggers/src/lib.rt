@@ -37,7 +37,7 @@ pub fn busy_lanes(w: Working) -> u8
         let own = w.lanes[i];
         let stage = own.stage;
         let yes = stages::is_in_progress(stage);
-        busy = bits::with_lane(busy, lane, yes);
+        busy = sets::with_lane(busy, lane, yes);
     }
     busy
 }
@@ -84,7 +84,7 @@ fn mark_lane(
     requires { ⌜ (length (now image) ≡ 768) × (base + 29 ≤ 768) × (lane < 8) × Marks kind (viewOf base (now image)) w selected lane m ⌝ }
     ensures { λ r. ⌜ Marks kind (viewOf base (now (image .entry))) w selected (lane + 1) r ⌝ }
 {
-    if !bits::is_in(selected, lane) {
+    if !sets::is_in(selected, lane) {
         return m;
     }
     let busy = busy_lanes(w);
@@ -106,7 +106,7 @@ fn mark_lane(
     let mut working = m.working;
     let i = lane as usize;
     working.lanes[i] = own;
-    let marked = bits::with_lane(m.marked, lane, true);
+    let marked = sets::with_lane(m.marked, lane, true);
     Marking {
         working,
         marked,
@@ -141,6 +141,6 @@ pub fn trigger(image: &mut [u8], w: Working, kind: Trigger, base: usize, selecte
         return w;
     }
     let m = mark(image, w, kind, base, selected);
-    bits::put_each(image, map::STATUSES, 4, m.marked, Status::IN_PROGRESS);
+    lanes::put_each(image, map::STATUSES, 4, m.marked, Status::IN_PROGRESS);
     m.working
 }

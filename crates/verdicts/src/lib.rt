@@ -18,7 +18,7 @@ use model::status::Status;
 fn passed(group: u8) -> Verdict
     ensures { λ r. ⌜ r ≡ passed group ⌝ }
 {
-    Verdict::Pass(bits::next_in(group, 0))
+    Verdict::Pass(sets::next_in(group, 0))
 }
 
 // The verdict on a group that asks for a descriptor's lanes from id on.
@@ -72,7 +72,7 @@ fn path_release(image: &[u8], group: u8, first: u8) -> Verdict
     ensures { λ r. ⌜ r ≡ pathRelease (viewOf activeSet (now (image .entry))) group ⌝ }
 {
     let missing = paths::path_of(image, first) != group;
-    let running = bits::nibble(image, map::STATES, first) != PathState::DEACTIVATED;
+    let running = lanes::nibble(image, map::STATES, first) != PathState::DEACTIVATED;
     if missing {
         return Verdict::Reject(Status::PARTIAL_PATH);
     }
@@ -98,7 +98,7 @@ pub fn verdict_of(image: &[u8], base: usize, trigger: Trigger, group: u8) -> Ver
     requires { ⌜ (length (now image) ≡ 768) × (base + 29 ≤ 768) ⌝ }
     ensures { λ r. ⌜ r ≡ verdictOf trigger (viewOf base (now (image .entry))) group ⌝ }
 {
-    let first = bits::next_in(group, 0);
+    let first = sets::next_in(group, 0);
     if 8 <= first {
         return Verdict::Pass(first);
     }

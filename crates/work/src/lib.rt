@@ -33,7 +33,7 @@ fn freed(w: Working, group: u8) -> Working
 {
     let mut next = w;
     for lane in 0..LaneRecord::COUNT {
-        if bits::is_in(group, lane) {
+        if sets::is_in(group, lane) {
             let i = lane as usize;
             next.lanes[i] = LaneRecord { stage: Stage::Idle };
         }
@@ -69,7 +69,7 @@ fn advanced(w: Working, group: u8, n: u8) -> Working
 {
     let mut next = w;
     for lane in 0..LaneRecord::COUNT {
-        if bits::is_in(group, lane) {
+        if sets::is_in(group, lane) {
             let i = lane as usize;
             let before = next.lanes[i];
             let after = advanced_record(before, n);
@@ -85,7 +85,7 @@ fn put_pending(image: &mut [u8], trigger: Trigger, group: u8)
     ensures { λ _. ⌜ now (image .exit) ≡ pendingAfter false trigger group (now (image .entry)) ⌝ }
 {
     match trigger {
-        Trigger::DpInit => bits::put_each(image, map::PENDING, 1, group, 1),
+        Trigger::DpInit => lanes::put_each(image, map::PENDING, 1, group, 1),
         Trigger::Immediate => {}
     }
 }
@@ -96,7 +96,7 @@ fn set_pending(image: &mut [u8], release: bool, trigger: Trigger, group: u8)
     ensures { λ _. ⌜ now (image .exit) ≡ pendingAfter release trigger group (now (image .entry)) ⌝ }
 {
     if release {
-        bits::put_each(image, map::PENDING, 1, group, 0);
+        lanes::put_each(image, map::PENDING, 1, group, 0);
     } else {
         put_pending(image, trigger, group);
     }
@@ -123,11 +123,11 @@ fn immediate_mask(image: &[u8], group: u8) -> u8
     requires { ⌜ length (now image) ≡ 768 ⌝ }
     ensures { λ r. ⌜ r ≡ commissionMask false Immediate (now (image .entry)) group ⌝ }
 {
-    let first = bits::next_in(group, 0);
+    let first = sets::next_in(group, 0);
     if LaneRecord::COUNT <= first {
         return 0;
     }
-    let state = PathState::of(bits::nibble(image, map::STATES, first));
+    let state = PathState::of(lanes::nibble(image, map::STATES, first));
     if is_commissioned(state) { group } else { 0 }
 }
 
@@ -150,7 +150,7 @@ fn close(image: &mut [u8], w: Working, group: u8, code: u8) -> Working
     requires { ⌜ length (now image) ≡ 768 ⌝ }
     ensures { λ r. ⌜ LeavesState (closed (now (image .entry)) w group code) (now (image .exit)) r ⌝ }
 {
-    bits::put_each(image, map::STATUSES, 4, group, code);
+    lanes::put_each(image, map::STATUSES, 4, group, code);
     freed(w, group)
 }
 
@@ -192,7 +192,7 @@ fn copy_next(image: &mut [u8], w: Working, group: u8, n: u8) -> Working
     ensures { λ r. ⌜ LeavesState (copied early (given (now (image .entry)) w) group n) (now (image .exit)) r ⌝ }
 {
     copy_lane(image, w, n);
-    let next = bits::next_in(group, n + 1);
+    let next = sets::next_in(group, n + 1);
     advanced(w, group, next)
 }
 

@@ -46,12 +46,12 @@ use denote.Triple.Walked.{says, Stays, stay-none, gave-slice, walkOf, goes-none,
 use denote.Exit.{yes}
 use Rattle.model.specs.Outcome.{Leaves, state, listOutcome}
 use Rattle.model.specs.declared.event.Event.{Event}
-use Rattle.playlist.specs.declared.Run.{Run}
+use Rattle.turns.specs.declared.Run.{Run}
 use Rattle.model.specs.declared.lane.Working.{Working}
 use Rattle.model.proofs.event.Event as E
 use Rattle.model.proofs.event.Event.Laws as E′
-use Rattle.playlist.proofs.Run as R
-use Rattle.playlist.proofs.Run.Laws as R′
+use Rattle.turns.proofs.Run as R
+use Rattle.turns.proofs.Run.Laws as R′
 use Rattle.model.proofs.lane.Working as S
 use Rattle.model.proofs.lane.Working.Laws as S′
 use Rattle.playlist.proofs.play as play

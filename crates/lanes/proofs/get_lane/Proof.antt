@@ -1,0 +1,17 @@
+-- `lanes::get_lane` meets its contract. Assumes nothing.
+use Rattle.bits.proofs.Lanes.{lane-fits}
+use borrow.Author.Needs.{needs}
+use Rattle.lanes.proofs.get_lane.Statement.{statement}
+use Rattle.lanes.proofs.get_lane.Tie as tie
+
+lane-field-requires : tie.Need-lane-field-requires
+lane-field-requires c κs = search needs
+
+get-requires : tie.Need-get-requires
+get-requires c κs = let s = c .before .before in rw (c .lane-field .ensures) (lane-fits (s .args .base) (s .args .width) (s .args .lane) _ (s .pre .0) (s .pre .1) (s .pre .2))
+
+returns : tie.Need-returns
+returns c = cc
+
+pub get-lane-spec : {M : Type 1} → statement M
+get-lane-spec = tie.close (tie.spec lane-field-requires get-requires returns)

@@ -1,0 +1,20 @@
+-- `lanes::put_lane` meets its contract. Assumes nothing.
+use Rattle.bits.proofs.Lanes.{lane-fits}
+use borrow.Author.Needs.{needs}
+use Rattle.lanes.proofs.put_lane.Statement.{statement}
+use Rattle.lanes.proofs.put_lane.Tie as tie
+
+lane-field-requires : tie.Need-lane-field-requires
+lane-field-requires c κs = search needs
+
+put-requires : tie.Need-put-requires
+put-requires c κs = let s = c .before .before .before in rw (c .lane-field .ensures) (lane-fits (s .args .base) (s .args .width) (s .args .lane) _ (s .pre .0) (s .pre .1) (s .pre .2))
+
+same-length : tie.Need-same-length
+same-length c = search needs
+
+returns : tie.Need-returns
+returns c = cc
+
+pub put-lane-spec : {M : Type 1} → statement M
+put-lane-spec = tie.close (tie.spec lane-field-requires put-requires same-length returns)

@@ -1,0 +1,95 @@
+// The fields of the lanes: bit, nibble or byte, at one formula over base, width and lane.
+ghost use mathlib.Core.Path.{_≡_};
+ghost use Prim.Native.Nat.{_+_, _%_, _^_, _≤_, _<_};
+ghost use lib.ListN.{length};
+ghost use Rattle.bits.specs.Place.{get, put};
+ghost use Rattle.bits.specs.Lane.{laneField};
+ghost use Rattle.bits.specs.Loop.{each};
+ghost use Rattle.bits.specs.Sets.{has};
+use bits::Place;
+
+// The place of a lane's field.
+pub fn lane_field(base: usize, width: u8, lane: u8) -> Place
+    requires { ⌜ (base + width < 2 ^ 64) × (lane < 8) × (8 % width ≡ 0) ⌝ }
+    ensures { λ r. ⌜ r ≡ laneField base width lane ⌝ }
+{
+    let bit = lane * width;
+    Place {
+        byte: base + (bit as usize) / 8,
+        shift: bit % 8,
+        width: width,
+    }
+}
+
+// What a lane's field holds.
+pub fn get_lane(image: &[u8], base: usize, width: u8, lane: u8) -> u8
+    requires { ⌜ (base + width ≤ length (now image)) × (lane < 8) × (8 % width ≡ 0) ⌝ }
+    ensures { λ r. ⌜ r ≡ get (now (image .entry)) (laneField base width lane) ⌝ }
+{
+    bits::get(image, lane_field(base, width, lane))
+}
+
+// v put into a lane's field.
+pub fn put_lane(image: &mut [u8], base: usize, width: u8, lane: u8, v: u8)
+    requires { ⌜ (base + width ≤ length (now image)) × (lane < 8) × (8 % width ≡ 0) ⌝ }
+    ensures { λ _. ⌜ now (image .exit) ≡ put (now (image .entry)) (laneField base width lane) v ⌝ }
+{
+    bits::put(image, lane_field(base, width, lane), v)
+}
+
+// A lane's bit of one byte.
+pub fn lane_bit(image: &[u8], base: usize, lane: u8) -> u8
+    requires { ⌜ (base + 1 ≤ length (now image)) × (lane < 8) ⌝ }
+    ensures { λ r. ⌜ r ≡ get (now (image .entry)) (laneField base 1 lane) ⌝ }
+{
+    get_lane(image, base, 1, lane)
+}
+
+pub fn put_lane_bit(image: &mut [u8], base: usize, lane: u8, v: u8)
+    requires { ⌜ (base + 1 ≤ length (now image)) × (lane < 8) ⌝ }
+    ensures { λ _. ⌜ now (image .exit) ≡ put (now (image .entry)) (laneField base 1 lane) v ⌝ }
+{
+    put_lane(image, base, 1, lane, v)
+}
+
+// A lane's nibble in four bytes.
+pub fn nibble(image: &[u8], base: usize, lane: u8) -> u8
+    requires { ⌜ (base + 4 ≤ length (now image)) × (lane < 8) ⌝ }
+    ensures { λ r. ⌜ r ≡ get (now (image .entry)) (laneField base 4 lane) ⌝ }
+{
+    get_lane(image, base, 4, lane)
+}
+
+pub fn put_nibble(image: &mut [u8], base: usize, lane: u8, v: u8)
+    requires { ⌜ (base + 4 ≤ length (now image)) × (lane < 8) ⌝ }
+    ensures { λ _. ⌜ now (image .exit) ≡ put (now (image .entry)) (laneField base 4 lane) v ⌝ }
+{
+    put_lane(image, base, 4, lane, v)
+}
+
+// A lane's byte of eight.
+pub fn lane_byte(image: &[u8], base: usize, lane: u8) -> u8
+    requires { ⌜ (base + 8 ≤ length (now image)) × (lane < 8) ⌝ }
+    ensures { λ r. ⌜ r ≡ get (now (image .entry)) (laneField base 8 lane) ⌝ }
+{
+    get_lane(image, base, 8, lane)
+}
+
+pub fn put_lane_byte(image: &mut [u8], base: usize, lane: u8, v: u8)
+    requires { ⌜ (base + 8 ≤ length (now image)) × (lane < 8) ⌝ }
+    ensures { λ _. ⌜ now (image .exit) ≡ put (now (image .entry)) (laneField base 8 lane) v ⌝ }
+{
+    put_lane(image, base, 8, lane, v)
+}
+
+// v put into the field of each lane of a set.
+pub fn put_each(image: &mut [u8], base: usize, width: u8, set: u8, v: u8)
+    requires { ⌜ (base + width ≤ length (now image)) × (8 % width ≡ 0) ⌝ }
+    ensures { λ _. ⌜ now (image .exit) ≡ each (has set) (λ l y. put y (laneField base width l) v) 8 (now (image .entry)) ⌝ }
+{
+    for lane in 0..8u8 {
+        if sets::is_in(set, lane) {
+            put_lane(image, base, width, lane, v);
+        }
+    }
+}

@@ -1,2 +1,0 @@
--- The worked cases, computed.
-pub mod Cases

@@ -1,2 +1,0 @@
--- A list of events, turn by turn.
-pub mod Playlist

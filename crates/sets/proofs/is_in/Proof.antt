@@ -1,0 +1,15 @@
+-- `sets::is_in` meets its contract. Assumes nothing.
+use Rattle.bits.specs.Sets.{has}
+use borrow.Author.Needs.{needs}
+use Rattle.sets.proofs.is_in.Statement.{statement}
+use Rattle.sets.proofs.is_in.Tie as tie
+
+take-field-requires : tie.Need-take-field-requires
+take-field-requires c κs = search needs
+
+returns : tie.Need-returns
+unfolding has
+returns c = rw (c .take-field .ensures)
+
+pub is-in-spec : {M : Type 1} → statement M
+is-in-spec = tie.close (tie.spec take-field-requires returns)

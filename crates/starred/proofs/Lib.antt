@@ -1,0 +1,2 @@
+-- The starred cases, computed.
+pub mod Starred

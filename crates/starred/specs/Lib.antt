@@ -1,0 +1,3 @@
+-- Worked cases, and the starred ones.
+pub mod Case
+pub mod Starred

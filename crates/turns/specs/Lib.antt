@@ -1,0 +1,2 @@
+-- A list of events, turn by turn.
+pub mod Turns

@@ -1,0 +1,2 @@
+-- The worked cases and night files, computed.
+pub mod Worked

@@ -1,0 +1,3 @@
+-- The worked cases and the night files.
+pub mod Worked
+pub mod Files
