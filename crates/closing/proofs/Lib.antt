@@ -1,0 +1,3 @@
+-- Sets of lanes, and the closing step from its parts.
+pub mod Groups
+pub mod Closes

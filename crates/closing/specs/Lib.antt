@@ -1,0 +1,2 @@
+-- What a work step leaves.
+pub mod Leaves

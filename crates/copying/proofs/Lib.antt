@@ -1,0 +1,2 @@
+-- The copying step from its parts.
+pub mod Copies

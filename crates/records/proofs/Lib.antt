@@ -1,0 +1,2 @@
+-- A loop over the records.
+pub mod Stages
