@@ -21,7 +21,7 @@ use Rattle.model.specs.declared.answer.Answer.{Answer}
 use Rattle.model.specs.declared.answer.Answer.the-variants.{Done, WrongLength, FlatMemory, Unsound}
 use Rattle.model.specs.declared.answer.Left.{Left}
 use Rattle.model.specs.declared.event.Event.{Event}
-use Rattle.steps.proofs.Outcomes.{first-here, first-next, first-none}
+use Rattle.replies.proofs.Outcomes.{first-here, first-next, first-none}
 
 has-length : (x : Image) → length x ≡ 768 → wrongLength x ≡ false
 unfolding wrongLength

@@ -4,8 +4,9 @@ ghost use mathlib.Core.List.{[]};
 ghost use lib.ListN.{length};
 ghost use Rattle.model.specs.Outcome.{Leaves, state, startOutcome, callOutcome};
 ghost use Rattle.model.specs.Refusals.{firstOf, isFlat, entryRefusals};
+ghost use Rattle.model.specs.Step.{event};
 ghost use Rattle.model.specs.declared.event.Call.the-variants.{Write, Read, Work, Hardware, Condition, Sample};
-ghost use Rattle.steps.specs.Asked.{asked, carrying};
+ghost use Rattle.replies.specs.Asked.{asked};
 use bits::Place;
 use model::answer::Answer;
 use model::answer::Left;
@@ -46,24 +47,24 @@ pub fn start(image: &mut [u8]) -> Left
 {
     let idle = Working::idle();
     if image.len() != map::IMAGE_LENGTH {
-        return steps::reply(Answer::WrongLength, idle);
+        return replies::reply(Answer::WrongLength, idle);
     }
     if is_flat(image) {
-        return steps::reply(Answer::FlatMemory, idle);
+        return replies::reply(Answer::FlatMemory, idle);
     }
     startup::reset(image);
-    steps::reply(Answer::Done, idle)
+    replies::reply(Answer::Done, idle)
 }
 
 // A host write of count of the bytes that are given.
 pub fn write(image: &mut [u8], w: Working, address: u8, count: u8, bytes: [u8; 8]) -> Left
-    ensures { λ r. ⌜ Leaves (callOutcome (state (now (image .entry)) w) [] (carrying bytes (Write address count))) r (now (image .exit)) [] ⌝ }
+    ensures { λ r. ⌜ Leaves (callOutcome (state (now (image .entry)) w) [] (event (Write address count) bytes)) r (now (image .exit)) [] ⌝ }
 {
     let answer = entry(image, w);
     if answer.number() != 0 {
-        return steps::reply(answer, w);
+        return replies::reply(answer, w);
     }
-    steps::write(image, w, address, count, bytes)
+    host_events::write(image, w, address, count, bytes)
 }
 
 // A host read of count bytes into the front of a buffer.
@@ -72,9 +73,9 @@ pub fn read(image: &mut [u8], w: Working, address: u8, count: u8, buffer: &mut [
 {
     let answer = entry(image, w);
     if answer.number() != 0 {
-        return steps::reply(answer, w);
+        return replies::reply(answer, w);
     }
-    steps::read(image, w, address, count, buffer)
+    host_events::read(image, w, address, count, buffer)
 }
 
 // A work step on a lane.
@@ -83,9 +84,9 @@ pub fn work(image: &mut [u8], w: Working, lane: u8) -> Left
 {
     let answer = entry(image, w);
     if answer.number() != 0 {
-        return steps::reply(answer, w);
+        return replies::reply(answer, w);
     }
-    steps::work(image, w, lane)
+    module_events::work(image, w, lane)
 }
 
 // A hardware event on the path of a lane.
@@ -94,9 +95,9 @@ pub fn hardware(image: &mut [u8], w: Working, lane: u8) -> Left
 {
     let answer = entry(image, w);
     if answer.number() != 0 {
-        return steps::reply(answer, w);
+        return replies::reply(answer, w);
     }
-    steps::hardware(image, w, lane)
+    module_events::hardware(image, w, lane)
 }
 
 // A condition that sets bits of a flag byte.
@@ -105,9 +106,9 @@ pub fn condition(image: &mut [u8], w: Working, flag: u8, mask: u8) -> Left
 {
     let answer = entry(image, w);
     if answer.number() != 0 {
-        return steps::reply(answer, w);
+        return replies::reply(answer, w);
     }
-    steps::condition(image, w, flag, mask)
+    module_events::condition(image, w, flag, mask)
 }
 
 // A sample of a lane's received power.
@@ -116,7 +117,7 @@ pub fn sample(image: &mut [u8], w: Working, lane: u8, power: u16) -> Left
 {
     let answer = entry(image, w);
     if answer.number() != 0 {
-        return steps::reply(answer, w);
+        return replies::reply(answer, w);
     }
-    steps::sample(image, w, lane, power)
+    module_events::sample(image, w, lane, power)
 }

@@ -22,7 +22,7 @@ pub struct Run {
 fn refused(answer: Answer, w: Working) -> Run
     ensures { λ r. ⌜ r ≡ refusedRun answer w ⌝ }
 {
-    let left = steps::reply(answer, w);
+    let left = replies::reply(answer, w);
     Run {
         left,
         at: 0,
@@ -41,7 +41,7 @@ pub fn begin<'a>(image: &'a mut [u8], answers: &'a mut [u8], w: Working, n: usiz
     if answers.len() < n {
         return refused(Answer::ShortBuffer, w);
     }
-    let left = steps::reply(Answer::Done, w);
+    let left = replies::reply(Answer::Done, w);
     Run {
         left,
         at: 0,
@@ -61,7 +61,7 @@ pub fn turn<'a>(image: &'a mut [u8], answers: &'a mut [u8], r: Run, event: Event
     let stepped = steps::step(image, before.working, event, &mut bytes);
     let answer = stepped.answer;
     let working = stepped.working;
-    let left = steps::reply(admitted, working);
+    let left = replies::reply(admitted, working);
     answers[at] = answer.number();
     Run {
         left,

@@ -3,7 +3,7 @@ use borrow.Author.Needs.{needs}
 use mathlib.Core.Path.{refl}
 use Rattle.model.specs.Refusals.{eventRefusals}
 use Rattle.model.specs.Step.{carried}
-use Rattle.steps.proofs.Outcomes.{elsewhere, as-asked}
+use Rattle.replies.proofs.Outcomes.{elsewhere, as-asked}
 use Rattle.steps.proofs.step.Statement.{statement}
 use Rattle.steps.proofs.step.Tie as tie
 

@@ -1,14 +1,14 @@
--- `steps::hardware` meets its contract. Assumes nothing.
+-- `module_events::hardware` meets its contract. Assumes nothing.
 use borrow.Author.Needs.{needs}
 use mathlib.Core.Path.{refl, sym, _∙_}
 use borrow.Author.Tests.{not-true, not-false}
 use Rattle.model.specs.Answers.{isDone}
 use Rattle.model.specs.Step.{carried}
 use Rattle.model.specs.declared.answer.Answer.the-variants.{NoSuchPlace, Busy, NothingToDo}
-use Rattle.steps.proofs.Outcomes.{refused-leaves, image-leaves}
-use Rattle.steps.proofs.Answered.{hardware-nowhere, hardware-busy, hardware-unused, hardware-done}
-use Rattle.steps.proofs.hardware.Statement.{statement}
-use Rattle.steps.proofs.hardware.Tie as tie
+use Rattle.replies.proofs.Outcomes.{refused-leaves, image-leaves}
+use Rattle.replies.proofs.Answered.{hardware-nowhere, hardware-busy, hardware-unused, hardware-done}
+use Rattle.module_events.proofs.hardware.Statement.{statement}
+use Rattle.module_events.proofs.hardware.Tie as tie
 
 reply-requires : tie.Need-reply-requires
 reply-requires c κs = search needs

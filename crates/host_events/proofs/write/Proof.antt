@@ -1,4 +1,4 @@
--- `steps::write` meets its contract. Assumes nothing.
+-- `host_events::write` meets its contract. Assumes nothing.
 use borrow.Author.Needs.{needs}
 use mathlib.Core.Path.{refl, sym, ap, _∙_}
 use native.Mathlib.Omega.{arith}
@@ -7,10 +7,10 @@ use Rattle.model.specs.Step.{carried}
 use Rattle.model.specs.Outcome.{laidOver}
 use Rattle.model.specs.declared.answer.Answer.the-variants.{BadAccess}
 use Rattle.access.proofs.Halves.{good-access}
-use Rattle.steps.proofs.Outcomes.{refused-leaves, done-leaves, length-taken}
-use Rattle.steps.proofs.Answered.{write-bad, write-done}
-use Rattle.steps.proofs.write.Statement.{statement}
-use Rattle.steps.proofs.write.Tie as tie
+use Rattle.replies.proofs.Outcomes.{refused-leaves, done-leaves, length-taken}
+use Rattle.replies.proofs.Answered.{write-bad, write-done}
+use Rattle.host_events.proofs.write.Statement.{statement}
+use Rattle.host_events.proofs.write.Tie as tie
 
 bad-access-requires : tie.Need-bad-access-requires
 bad-access-requires c κs = search needs

@@ -1,14 +1,14 @@
--- `steps::read` meets its contract. Assumes nothing.
+-- `host_events::read` meets its contract. Assumes nothing.
 use borrow.Author.Needs.{needs}
 use mathlib.Core.Path.{refl, sym, ap, _∙_}
 use Rattle.model.specs.Answers.{isDone}
 use Rattle.model.specs.Step.{carried, readAt}
 use Rattle.model.specs.declared.answer.Answer.the-variants.{BadAccess, ShortBuffer}
 use Rattle.access.proofs.Halves.{good-access}
-use Rattle.steps.proofs.Outcomes.{refused-leaves, done-leaves}
-use Rattle.steps.proofs.Answered.{read-bad, read-short, read-done}
-use Rattle.steps.proofs.read.Statement.{statement}
-use Rattle.steps.proofs.read.Tie as tie
+use Rattle.replies.proofs.Outcomes.{refused-leaves, done-leaves}
+use Rattle.replies.proofs.Answered.{read-bad, read-short, read-done}
+use Rattle.host_events.proofs.read.Statement.{statement}
+use Rattle.host_events.proofs.read.Tie as tie
 
 bad-access-requires : tie.Need-bad-access-requires
 bad-access-requires c κs = search needs

@@ -1,8 +1,8 @@
--- `steps::is_busy` meets its contract. Assumes nothing.
+-- `module_events::is_busy` meets its contract. Assumes nothing.
 use borrow.Author.Needs.{needs}
-use Rattle.steps.proofs.Answered.{busy-by}
-use Rattle.steps.proofs.is_busy.Statement.{statement}
-use Rattle.steps.proofs.is_busy.Tie as tie
+use Rattle.replies.proofs.Answered.{busy-by}
+use Rattle.module_events.proofs.is_busy.Statement.{statement}
+use Rattle.module_events.proofs.is_busy.Tie as tie
 
 path-of-requires : tie.Need-path-of-requires
 path-of-requires c κs = search needs

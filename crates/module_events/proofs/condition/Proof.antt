@@ -1,4 +1,4 @@
--- `steps::condition` meets its contract. Assumes nothing.
+-- `module_events::condition` meets its contract. Assumes nothing.
 use borrow.Author.Needs.{needs}
 use mathlib.Core.Path.{refl, sym, _∙_}
 use borrow.Author.Tests.{not-true, not-false}
@@ -6,10 +6,10 @@ use Rattle.model.specs.Answers.{isDone}
 use Rattle.model.specs.Step.{carried}
 use Rattle.model.specs.declared.answer.Answer.the-variants.{NoSuchPlace}
 use Rattle.flags.proofs.Conditions.{condition-upper}
-use Rattle.steps.proofs.Outcomes.{refused-leaves, image-leaves}
-use Rattle.steps.proofs.Answered.{condition-nowhere, condition-done}
-use Rattle.steps.proofs.condition.Statement.{statement}
-use Rattle.steps.proofs.condition.Tie as tie
+use Rattle.replies.proofs.Outcomes.{refused-leaves, image-leaves}
+use Rattle.replies.proofs.Answered.{condition-nowhere, condition-done}
+use Rattle.module_events.proofs.condition.Statement.{statement}
+use Rattle.module_events.proofs.condition.Tie as tie
 
 is-condition-flag-requires : tie.Need-is-condition-flag-requires
 is-condition-flag-requires c κs = search needs

@@ -1,4 +1,4 @@
--- `steps::work` meets its contract. Assumes nothing.
+-- `module_events::work` meets its contract. Assumes nothing.
 use borrow.Author.Needs.{needs}
 use mathlib.Core.Path.{refl, sym, ap, _∙_}
 use borrow.Author.Tests.{not-true, not-false}
@@ -7,10 +7,10 @@ use Rattle.model.specs.Lanes.{isInProgress}
 use Rattle.model.specs.Step.{carried}
 use Rattle.model.specs.Outcome.{laidOver}
 use Rattle.model.specs.declared.answer.Answer.the-variants.{NoSuchPlace, NothingToDo}
-use Rattle.steps.proofs.Outcomes.{refused-leaves, done-leaves, work-reads-nothing}
-use Rattle.steps.proofs.Answered.{work-nowhere, work-idle, work-done}
-use Rattle.steps.proofs.work.Statement.{statement}
-use Rattle.steps.proofs.work.Tie as tie
+use Rattle.replies.proofs.Outcomes.{refused-leaves, done-leaves, work-reads-nothing}
+use Rattle.replies.proofs.Answered.{work-nowhere, work-idle, work-done}
+use Rattle.module_events.proofs.work.Statement.{statement}
+use Rattle.module_events.proofs.work.Tie as tie
 
 reply-requires : tie.Need-reply-requires
 reply-requires c κs = search needs

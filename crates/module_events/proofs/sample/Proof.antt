@@ -1,13 +1,13 @@
--- `steps::sample` meets its contract. Assumes nothing.
+-- `module_events::sample` meets its contract. Assumes nothing.
 use borrow.Author.Needs.{needs}
 use mathlib.Core.Path.{refl}
 use Rattle.model.specs.Answers.{isDone}
 use Rattle.model.specs.Step.{carried}
 use Rattle.model.specs.declared.answer.Answer.the-variants.{NoSuchPlace}
-use Rattle.steps.proofs.Outcomes.{refused-leaves, image-leaves}
-use Rattle.steps.proofs.Answered.{sample-nowhere, sample-done}
-use Rattle.steps.proofs.sample.Statement.{statement}
-use Rattle.steps.proofs.sample.Tie as tie
+use Rattle.replies.proofs.Outcomes.{refused-leaves, image-leaves}
+use Rattle.replies.proofs.Answered.{sample-nowhere, sample-done}
+use Rattle.module_events.proofs.sample.Statement.{statement}
+use Rattle.module_events.proofs.sample.Tie as tie
 
 reply-requires : tie.Need-reply-requires
 reply-requires c κs = search needs
