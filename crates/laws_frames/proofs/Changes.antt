@@ -25,7 +25,7 @@ use Rattle.model.specs.declared.page.PagePlace.{PagePlace}
 use Rattle.model.specs.declared.page.PagePlace.the-variants.{Unsupported, At}
 use Rattle.model.specs.declared.path.PathState.{PathState}
 use Rattle.laws_frames.proofs.Outside.{Beside, SameOutside, outside-refl, outside-trans, outside-wider, set-outside, put-outside, each-outside}
-use Rattle.laws_frames.proofs.Registers.{lane-from, lane-to, setting-from, setting-to}
+use Rattle.laws_frames.proofs.Registers.{lane-from, lane-to, setting-from, setting-to, advertised-between, SameAdvertised}
 
 -- ---- lanes' registers
 
@@ -117,6 +117,11 @@ cleared-length x i n = each-skip (λ k. clearing (i + k)) _ length n x (λ k y b
 pub record SameOffPath (x y : Image) : Type 0 where
   pub size : length y ≡ length x
   pub byte : (i : ℕ) → Beside 640 644 i → Beside 646 647 i → Beside 747 748 i → getD y i 0 ≡ getD x i 0
+
+pub off-advertised : {x y : Image} → SameOffPath x y → SameAdvertised x y
+off-advertised s i d =
+    let h = advertised-between i d in
+    s .byte i (inl (omega (arith, h))) (inl (omega (arith, h))) (inl (omega (arith, h)))
 
 off-trans : {x y z : Image} → SameOffPath x y → SameOffPath y z → SameOffPath x z
 off-trans p q = record { size = q .size ∙ p .size; byte = λ i a b c. q .byte i a b c ∙ p .byte i a b c }

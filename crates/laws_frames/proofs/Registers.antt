@@ -1,7 +1,8 @@
 -- Each register reads only the bytes of its range. Assumes nothing.
 use mathlib.Core.Path.{_≡_, refl}
 use mathlib.Core.Bool.{true}
-use Prim.Native.Nat.{ℕ, zero, suc, _+_, _-_, _*_, _%_, _≤_, _<_}
+use mathlib.Core.Logic.{_⊎_, inl, inr}
+use Prim.Native.Nat.{ℕ, zero, suc, _+_, _%_, _≤_, _<_}
 use native.Mathlib.Omega.{arith}
 use lib.Dec.{eqb, leb}
 use lib.ListN.{getD}
@@ -16,10 +17,10 @@ use Rattle.bits.proofs.Lanes.{lane-in}
 use Rattle.bits.proofs.Loops.{all-at, all-ext, tab-ext}
 use Rattle.bits.proofs.Words.{word-ext}
 use Rattle.model.specs.Map.{Image, stateAt, statusAt, pendingAt, settingAt, settingOffsets, settingWidths, equalizerLimit, preLimit, postLimit, amplitudeSupport}
-use Rattle.model.specs.Applications.{descriptorAt, listReaches, hostLaneCount, isPresent, lookup}
+use Rattle.model.specs.Applications.{applicationCount, descriptorAt, listReaches, hostLaneCount, isPresent, lookup}
 use Rattle.model.specs.View.{settingsAt, settingsOf, statesOf, applicationsOf, limitsOf}
 use Rattle.model.specs.declared.lane.Settings.{Settings}
-use Rattle.laws_frames.proofs.Outside.{SameWithin, get-same, get-within}
+use Rattle.laws_frames.proofs.Outside.{SameOutside, SameWithin, get-same, get-within}
 
 -- ---- where lane fields lie
 
@@ -110,25 +111,47 @@ limits-same x y s = λ i. record {
   amplitudes = get-same x y amplitudeSupport (s 281 (omega arith) (omega arith)) i;
 }
 
-reaches-same : (x y : Image) (a : ℕ) → a ≤ 8 → SameWithin 86 118 x y → listReaches y a ≡ listReaches x a
-unfolding listReaches descriptorAt
-reaches-same x y a h s = all-ext a _ _ (λ k b. rw (s (86 + 4 * ((k + 1) - 1)) (omega arith) (omega arith)))
+-- what the module says of itself and nothing changes: the descriptors of lower memory, and pages 00h, 01h, 02h
+abbrev pub Advertised : ℕ → Type 0
+Advertised i = ((86 ≤ i) × (i < 118)) ⊎ ((128 ≤ i) × (i < 512))
 
-count-same : (x y : Image) (a : ℕ) → 1 ≤ a → a ≤ 8 → SameWithin 86 118 x y → hostLaneCount y a ≡ hostLaneCount x a
-unfolding hostLaneCount descriptorAt
-count-same x y a g h s = rw (s ((86 + 4 * (a - 1)) + 2) (omega arith) (omega arith))
+pub advertised-between : (i : ℕ) → Advertised i → (86 ≤ i) × (i < 512)
+advertised-between i (inl h) = (omega arith, omega arith)
+advertised-between i (inr h) = (omega arith, omega arith)
 
-pub lookup-same : (x y : Image) (a : ℕ) → SameWithin 86 118 x y → lookup y a ≡ lookup x a
-unfolding lookup isPresent descriptorAt both pick
-lookup-same x y a s = split (both (leb 1 a) (leb a 8))
-    (λ r. let g : 1 ≤ a = leb-true 1 a (both-l (leb 1 a) (leb a 8) r) in
-    let h : a ≤ 8 = leb-true a 8 (both-r (leb 1 a) (leb a 8) r) in
-    rw (reaches-same x y a h s, count-same x y a g h s, s ((86 + 4 * (a - 1)) + 3) (omega arith) (omega arith)))
-    (λ r. rw (r, both, pick))
+-- y has x's bytes there
+abbrev pub SameAdvertised : Image → Image → Type 0
+SameAdvertised x y = (i : ℕ) → Advertised i → getD y i 0 ≡ getD x i 0
 
-pub applications-same : (x y : Image) → SameWithin 86 118 x y → applicationsOf y ≡ applicationsOf x
+pub advertised-below : {lo hi : ℕ} {x y : Image} → 512 ≤ lo → SameOutside lo hi x y → SameAdvertised x y
+advertised-below h s i d = s .byte i (inl (omega (arith, advertised-between i d)))
+
+-- every byte of a descriptor is one of them
+descriptor-in : (a i : ℕ) → 1 ≤ a → a ≤ applicationCount → descriptorAt a ≤ i → i < descriptorAt a + 4 → Advertised i
+unfolding descriptorAt
+descriptor-in a i l h f t = inl (omega arith, omega arith)
+
+module _ (x y : Image) (s : SameAdvertised x y) where
+  reaches-same : (a : ℕ) → a ≤ applicationCount → listReaches y a ≡ listReaches x a
+  unfolding listReaches
+  reaches-same a h = all-ext a _ _ (λ k b.
+      rw (s (descriptorAt (k + 1)) (descriptor-in (k + 1) (descriptorAt (k + 1)) (omega arith) (omega arith) (omega arith) (omega arith))))
+
+  count-same : (a : ℕ) → 1 ≤ a → a ≤ applicationCount → hostLaneCount y a ≡ hostLaneCount x a
+  unfolding hostLaneCount
+  count-same a g h = rw (s (descriptorAt a + 2) (descriptor-in a (descriptorAt a + 2) g h (omega arith) (omega arith)))
+
+  pub lookup-same : (a : ℕ) → lookup y a ≡ lookup x a
+  unfolding lookup isPresent both pick
+  lookup-same a = split (both (leb 1 a) (leb a applicationCount))
+      (λ r. let g : 1 ≤ a = leb-true 1 a (both-l (leb 1 a) (leb a applicationCount) r) in
+      let h : a ≤ applicationCount = leb-true a applicationCount (both-r (leb 1 a) (leb a applicationCount) r) in
+      rw (reaches-same a h, count-same a g h, s (descriptorAt a + 3) (descriptor-in a (descriptorAt a + 3) g h (omega arith) (omega arith))))
+      (λ r. rw (r, both, pick))
+
+pub applications-same : (x y : Image) → SameAdvertised x y → applicationsOf y ≡ applicationsOf x
 unfolding applicationsOf
-applications-same x y s = tab-ext 16 _ _ (λ a b. lookup-same x y a s)
+applications-same x y s = tab-ext 16 _ _ (λ a b. lookup-same x y s a)
 
 -- ---- words
 

@@ -25,7 +25,7 @@ use Rattle.model.specs.declared.path.PathState.{PathState}
 use Rattle.model.specs.declared.path.PathState.the-variants.{Reserved, Deactivated, Init, Deinit, Activated, TxTurnOn, TxTurnOff, Initialized}
 use Rattle.laws_frames.proofs.Outside.{below-range, above-range}
 use Rattle.laws_frames.proofs.Registers.{settings-same, applications-same, status-same, state-same, pending-same}
-use Rattle.laws_frames.proofs.Changes.{SameOffPath, entered-off, state-outside, pending-outside, flags-outside}
+use Rattle.laws_frames.proofs.Changes.{SameOffPath, off-advertised, entered-off, state-outside, pending-outside, flags-outside}
 use Rattle.laws_frames.proofs.Back.{state-in, state-out, pending-out}
 use Rattle.laws_sound.proofs.Sound.{Seen, seenOf, InWhole}
 use Rattle.laws_sound.proofs.Paths.{path-has}
@@ -107,7 +107,7 @@ module _ (two : ℕ) (s : State) (W : Well two s) (l : ℕ) (b : l < 8) (idle : 
     sound =
         rw (
           settings-same activeSet (s .image) y (λ i a c. off .byte i (inr (omega arith)) (inr (omega arith)) (inl (omega arith))),
-          applications-same (s .image) y (λ i a c. off .byte i (inl (omega arith)) (inl (omega arith)) (inl (omega arith))),
+          applications-same (s .image) y (off-advertised off),
         )
         (quiet-sound after (λ m. get y (statusAt m)) (after .pending)
         (λ m bm. status-same (s .image) y m bm (λ i a c. off .byte i (inr (omega arith)) (inr (omega arith)) (inl (omega arith))))

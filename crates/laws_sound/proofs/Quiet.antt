@@ -19,7 +19,7 @@ use Rattle.model.specs.Pages.{pageSelected}
 use Rattle.model.specs.Access.{cleared}
 use Rattle.model.specs.declared.lane.Working.{Working}
 use Rattle.laws_frames.proofs.Outside.{Beside, SameOutside, set-outside}
-use Rattle.laws_frames.proofs.Registers.{settings-same, states-same, applications-same, status-same, pending-same}
+use Rattle.laws_frames.proofs.Registers.{Advertised, settings-same, states-same, applications-same, status-same, pending-same}
 use Rattle.laws_frames.proofs.Changes.{settled-outside, sampled-outside, flags-outside, selected-outside, cleared-byte, cleared-length}
 use Rattle.laws_sound.proofs.Sound.{seenOf, Sound}
 use Rattle.laws_sound.proofs.Closing.{quiet-sound}
@@ -33,7 +33,7 @@ pub record Well (two : ℕ) (s : State) : Type 0 where
 -- ---- bytes that soundness does not look at
 
 abbrev pub Free : ℕ → Type 0
-Free i = ((3 ≤ i) × (i < 86)) ⊎ (((118 ≤ i) × (i < 640)) ⊎ ((644 ≤ i) × (i < 714)))
+Free i = ((3 ≤ i) × (i < 86)) ⊎ (((118 ≤ i) × (i < 128)) ⊎ (((512 ≤ i) × (i < 640)) ⊎ ((644 ≤ i) × (i < 714))))
 
 -- the others stay
 pub record Quiet (x y : Image) : Type 0 where
@@ -43,22 +43,30 @@ pub record Quiet (x y : Image) : Type 0 where
 low-kept : Free 2 → ⊥
 low-kept (inl h) = omega arith
 low-kept (inr (inl h)) = omega arith
-low-kept (inr (inr h)) = omega arith
+low-kept (inr (inr (inl h))) = omega arith
+low-kept (inr (inr (inr h))) = omega arith
 
-descriptor-kept : (i : ℕ) → 86 ≤ i → i < 118 → Free i → ⊥
-descriptor-kept i a b (inl h) = omega arith
-descriptor-kept i a b (inr (inl h)) = omega arith
-descriptor-kept i a b (inr (inr h)) = omega arith
+pub advertised-kept : (i : ℕ) → Advertised i → Free i → ⊥
+advertised-kept i (inl d) (inl h) = omega arith
+advertised-kept i (inl d) (inr (inl h)) = omega arith
+advertised-kept i (inl d) (inr (inr (inl h))) = omega arith
+advertised-kept i (inl d) (inr (inr (inr h))) = omega arith
+advertised-kept i (inr d) (inl h) = omega arith
+advertised-kept i (inr d) (inr (inl h)) = omega arith
+advertised-kept i (inr d) (inr (inr (inl h))) = omega arith
+advertised-kept i (inr d) (inr (inr (inr h))) = omega arith
 
 state-kept : (i : ℕ) → 640 ≤ i → i < 644 → Free i → ⊥
 state-kept i a b (inl h) = omega arith
 state-kept i a b (inr (inl h)) = omega arith
-state-kept i a b (inr (inr h)) = omega arith
+state-kept i a b (inr (inr (inl h))) = omega arith
+state-kept i a b (inr (inr (inr h))) = omega arith
 
 lane-kept : (i : ℕ) → 714 ≤ i → Free i → ⊥
 lane-kept i a (inl h) = omega arith
 lane-kept i a (inr (inl h)) = omega arith
-lane-kept i a (inr (inr h)) = omega arith
+lane-kept i a (inr (inr (inl h))) = omega arith
+lane-kept i a (inr (inr (inr h))) = omega arith
 
 pub quiet-well : (two : ℕ) (x y : Image) (w : Working) → Quiet x y → Well two (record { image = x; working = w }) → Well two (record { image = y; working = w })
 quiet-well two x y w Q W = record {
@@ -68,7 +76,7 @@ quiet-well two x y w Q W = record {
       rw (
         settings-same activeSet x y (λ i a b. Q .byte i (lane-kept i (omega arith))),
         states-same x y (λ i a b. Q .byte i (state-kept i a b)),
-        applications-same x y (λ i a b. Q .byte i (descriptor-kept i a b)),
+        applications-same x y (λ i d. Q .byte i (advertised-kept i d)),
       )
       (quiet-sound (seenOf (record { image = x; working = w })) (λ l. get y (statusAt l)) (λ l. get y (pendingAt l))
       (λ l b. status-same x y l b (λ i a b. Q .byte i (lane-kept i a)))
@@ -90,7 +98,8 @@ quiet-of lo hi f s = record { size = s .size; byte = λ i n. s .byte i (beside i
 unfoldable freeRange : Range → Bool
 freeRange r =
     either (both (leb 3 (r .from)) (ltb (r .to) 86))
-    (either (both (leb 118 (r .from)) (ltb (r .to) 640)) (both (leb 644 (r .from)) (ltb (r .to) 714)))
+    (either (both (leb 118 (r .from)) (ltb (r .to) 128))
+    (either (both (leb 512 (r .from)) (ltb (r .to) 640)) (both (leb 644 (r .from)) (ltb (r .to) 714))))
 
 unfoldable allFree : List Range → Bool
 allFree [] = true
@@ -110,8 +119,11 @@ unfolding freeRange
 range-free r i e a b = elim (either-cases _ _ e) [
   | inl h ↦ inl (inside 3 86 (r .from) (r .to) i h a b)
   | inr k ↦ elim (either-cases _ _ k) [
-    | inl h ↦ inr (inl (inside 118 640 (r .from) (r .to) i h a b))
-    | inr h ↦ inr (inr (inside 644 714 (r .from) (r .to) i h a b))
+    | inl h ↦ inr (inl (inside 118 128 (r .from) (r .to) i h a b))
+    | inr l ↦ elim (either-cases _ _ l) [
+      | inl h ↦ inr (inr (inl (inside 512 640 (r .from) (r .to) i h a b)))
+      | inr h ↦ inr (inr (inr (inside 644 714 (r .from) (r .to) i h a b)))
+    ]
   ]
 ]
 
@@ -142,9 +154,9 @@ clearing-free i e = ranges-free clearedRanges i cleared-ranges e
 condition-free : (flag : ℕ) → isConditionFlag flag ≡ true → Free (on page11 flag)
 unfolding isConditionFlag inRanges
 condition-free flag e = elim (either-cases _ _ e) [
-  | inl h ↦ let r = between 135 flag 138 h in inr (inr (omega arith, omega arith))
+  | inl h ↦ let r = between 135 flag 138 h in inr (inr (inr (omega arith, omega arith)))
   | inr k ↦ elim (either-cases _ _ k) [
-    | inl h ↦ let r = between 147 flag 148 h in inr (inr (omega arith, omega arith))
+    | inl h ↦ let r = between 147 flag 148 h in inr (inr (inr (omega arith, omega arith)))
     | inr h ↦ absurd (clash h refl)
   ]
 ]
@@ -159,7 +171,7 @@ pub settled-quiet : (x : Image) → Quiet x (settled x)
 settled-quiet x = quiet-of 3 4 (λ i a b. inl (omega arith, omega arith)) (settled-outside x)
 
 pub sampled-quiet : (l p : ℕ) (x : Image) → l < 8 → Quiet x (sampled l p x)
-sampled-quiet l p x b = quiet-of 646 714 (λ i a c. inr (inr (omega arith, omega arith))) (sampled-outside l p x b)
+sampled-quiet l p x b = quiet-of 646 714 (λ i a c. inr (inr (inr (omega arith, omega arith)))) (sampled-outside l p x b)
 
 pub condition-quiet : (flag mask : ℕ) (x : Image) → isConditionFlag flag ≡ true → Quiet x (conditionSet flag mask x)
 unfolding conditionSet

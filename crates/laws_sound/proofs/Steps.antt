@@ -27,7 +27,7 @@ use Rattle.model.specs.declared.event.Call.{Call}
 use Rattle.model.specs.declared.event.Call.the-variants.{Write, Read, Work, Hardware, Condition, Sample}
 use Rattle.model.specs.declared.event.Event.{Event}
 use Rattle.laws_frames.proofs.Outside.{SameOutside, below-range, above-range}
-use Rattle.laws_frames.proofs.Registers.{settings-same, states-same, applications-same, pending-same}
+use Rattle.laws_frames.proofs.Registers.{settings-same, states-same, advertised-below, applications-same, pending-same}
 use Rattle.laws_frames.proofs.Changes.{status-outside}
 use Rattle.laws_frames.proofs.Back.{status-in, status-out, read-fits}
 use Rattle.laws_frames.proofs.Stages.{stage-in}
@@ -55,7 +55,7 @@ marked-well two t base s sel W = record {
       rw (
         settings-same activeSet (s .image) y (above-range 718 747 (omega arith) changed),
         states-same (s .image) y (below-range 640 644 (omega arith) changed),
-        applications-same (s .image) y (below-range 86 118 (omega arith) changed),
+        applications-same (s .image) y (advertised-below (omega arith) changed),
       )
       (quiet-sound after (after .status) (λ l. get y (pendingAt l)) (λ l b. refl)
       (λ l b. pending-same (s .image) y l b (above-range 747 748 (omega arith) changed))

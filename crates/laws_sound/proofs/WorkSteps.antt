@@ -26,7 +26,7 @@ use Rattle.model.specs.declared.lane.Progress.{Progress}
 use Rattle.model.specs.declared.lane.Stage.{Stage}
 use Rattle.model.specs.declared.lane.Stage.the-variants.{Idle, InProgress}
 use Rattle.laws_frames.proofs.Outside.{SameOutside, outside-refl, below-range, above-range}
-use Rattle.laws_frames.proofs.Registers.{settings-same, states-same, applications-same, status-same, pending-same}
+use Rattle.laws_frames.proofs.Registers.{settings-same, states-same, advertised-below, applications-same, status-same, pending-same}
 use Rattle.laws_frames.proofs.Changes.{status-outside, pending-outside, copy-outside}
 use Rattle.laws_frames.proofs.Back.{Fits, status-in, status-out, pending-in, pending-out, active-in, active-out, written-fits}
 use Rattle.laws_frames.proofs.Stages.{freed-in, freed-out, advanced-in, advanced-out}
@@ -95,8 +95,8 @@ module _ (two : ℕ) (s : State) (W : Well two s) (k : ℕ) (p : Progress) (b : 
             settings-same activeSet (s .image) z (below-range 718 747 (omega arith) pends),
             states-same z y (below-range 640 644 (omega arith) statuses),
             states-same (s .image) z (below-range 640 644 (omega arith) pends),
-            applications-same z y (below-range 86 118 (omega arith) statuses),
-            applications-same (s .image) z (below-range 86 118 (omega arith) pends),
+            applications-same z y (advertised-below (omega arith) statuses),
+            applications-same (s .image) z (advertised-below (omega arith) pends),
           )
           (closing (seenOf s) (W .sound) k p b e (stageAt (freed (s .working) (p .group))) (λ l. get y (statusAt l)) (λ l. get y (pendingAt l)) code
           (λ l bl i. freed-in (s .working) (p .group) l bl i)
@@ -161,7 +161,7 @@ module _ (two : ℕ) (s : State) (W : Well two s) (k : ℕ) (p : Progress) (b : 
       sound =
           rw (
             states-same (s .image) copy (below-range 640 644 (omega arith) changed),
-            applications-same (s .image) copy (below-range 86 118 (omega arith) changed),
+            applications-same (s .image) copy (advertised-below (omega arith) changed),
           )
           (quiet-sound after (λ l. get copy (statusAt l)) (λ l. get copy (pendingAt l))
           (λ l bl. status-same (s .image) copy l bl (below-range 714 718 (omega arith) changed))

@@ -17,7 +17,7 @@ use Rattle.model.specs.declared.lane.Verdict.the-variants.{Pass}
 use Rattle.model.specs.declared.lane.Progress.{Progress}
 use Rattle.model.specs.declared.lane.Stage.the-variants.{InProgress}
 use Rattle.model.specs.declared.lane.Working.{Working}
-use Rattle.laws_frames.proofs.Registers.{settings-same, applications-same}
+use Rattle.laws_frames.proofs.Registers.{advertised-between, settings-same, applications-same}
 use Rattle.laws_frames.proofs.Stages.{stage-in}
 use Rattle.laws_sound.proofs.Sound.{seenOf, Sound}
 use Rattle.laws_sound.proofs.Stranger.{idle-passing, now-fills}
@@ -65,9 +65,9 @@ module _ (x y : Image) (w : Working) (S : Sound (seenOf (state x w))) (P : Pair 
       let K = keeps-status (isMarked (viewOf stagedSet0 x) w selected) inProgress x in
       rw (
         ← (same-active x y w S P l b f),
-        applications-same x y (λ i a h. low (passed w) x y (P .alike) i (omega arith)),
+        applications-same x y (λ i d. low (passed w) x y (P .alike) i (omega (arith, advertised-between i d))),
         ← (settings-same 718 x z (K .active)),
-        ← (applications-same x z (K .descriptors)),
+        ← (applications-same x z (K .advertised)),
       )
       (now-fills _ T l n p b e q)
 

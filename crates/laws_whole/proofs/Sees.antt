@@ -9,7 +9,7 @@ use Rattle.model.specs.Lanes.{noSettings}
 use Rattle.model.specs.View.{View, viewOf, of, settingsAt, settingsOf}
 use Rattle.model.specs.declared.lane.Settings.{Settings}
 use Rattle.laws_frames.proofs.Outside.{SameWithin}
-use Rattle.laws_frames.proofs.Registers.{settings-same, states-same, limits-same, applications-same}
+use Rattle.laws_frames.proofs.Registers.{settings-same, states-same, limits-same, advertised-between, applications-same}
 
 -- the active settings of all lanes
 abbrev pub activeOf : Image → List Settings
@@ -29,5 +29,5 @@ view-same x y h = rw (
   settings-same stagedSet0 x y (λ i a b. h i (omega arith) (omega arith)),
   states-same x y (λ i a b. h i (omega arith) (omega arith)),
   limits-same x y (λ i a b. h i (omega arith) (omega arith)),
-  applications-same x y (λ i a b. h i (omega arith) (omega arith)),
+  applications-same x y (λ i d. let b = advertised-between i d in h i (omega (arith, b)) (omega (arith, b))),
 )

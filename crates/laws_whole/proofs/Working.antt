@@ -2,7 +2,6 @@
 use mathlib.Core.Path.{_≡_, refl, sym, _∙_}
 use mathlib.Core.Bool.{Bool, true, false}
 use mathlib.Core.List.{[]}
-use mathlib.Core.Logic.{inl}
 use Prim.Native.Nat.{ℕ, _≤_, _<_}
 use native.Mathlib.Omega.{arith}
 use lib.Dec.{ltb}
@@ -28,7 +27,7 @@ use Rattle.model.specs.declared.lane.Progress.{Progress}
 use Rattle.model.specs.declared.lane.Stage.{Stage}
 use Rattle.model.specs.declared.lane.Stage.the-variants.{Idle, InProgress}
 use Rattle.model.specs.declared.lane.Working.{Working}
-use Rattle.laws_frames.proofs.Registers.{applications-same}
+use Rattle.laws_frames.proofs.Registers.{advertised-below, applications-same}
 use Rattle.laws_frames.proofs.Changes.{copy-outside}
 use Rattle.laws_frames.proofs.Stages.{freed-in, freed-out, advanced-in, advanced-out}
 use Rattle.laws_frames.proofs.Back.{Fits}
@@ -149,7 +148,7 @@ module _ (x y : Image) (w : Working) (S : Sound (seenOf (state x w))) (P : Pair 
           let s = still w (p .group) m q bm f in
           let z = copyGroup late w (p .group) y in
           let a : of (activeOf z) m ≡ of (activeOf y) m = active-at z m bm ∙ group-out w (p .group) y m bm (s .1) ∙ sym (active-at y m bm) in
-          rw (a, applications-same y z (λ i c d. group-outside w (p .group) y .byte i (inl (omega arith)))) (P .waits m k q bm (s .0) u)
+          rw (a, applications-same y z (advertised-below (omega arith) (group-outside w (p .group) y))) (P .waits m k q bm (s .0) u)
 
       first-below : firstIn (p .group) < 8
       first-below = first-in 8 (p .group) 0 l (omega arith) b (S .grouped l p b e .own) .0
