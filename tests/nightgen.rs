@@ -168,6 +168,17 @@ fn trigger_name(trigger: Trigger) -> &'static str {
 
 // ---- grouping and verdicts, said plainly ----
 
+/// Where the descriptors 1 to 15 begin, as 002 prints it.
+const DESCRIPTOR_PLACES: [usize; 15] = [
+    86, 90, 94, 98, 102, 106, 110, 114,
+    P01 + 223, P01 + 227, P01 + 231, P01 + 235, P01 + 239, P01 + 243, P01 + 247,
+];
+
+/// Where the descriptor of an AppSel begins.
+fn descriptor_at(app_sel: u8) -> usize {
+    DESCRIPTOR_PLACES[app_sel as usize - 1]
+}
+
 /// The groups a trigger's selected lanes fall into.
 fn groups(state: &State, selected: u8) -> Vec<u8> {
     let mut groups: BTreeMap<(u8, u8), u8> = BTreeMap::new();
@@ -206,22 +217,19 @@ fn judge(state: &State, trigger: Trigger, group: u8) -> (u8, &'static str) {
     if lanes.iter().any(|&lane| state.staged(lane) >> 4 != app_sel) {
         return (4, "4 AppSels differ");
     }
-    if app_sel > 8 {
-        return (3, "3 AppSel above 8");
-    }
-    let at = |a: u8| DESCRIPTORS + 4 * (a as usize - 1);
-    if state.image[at(app_sel)] == 0xFF {
+    let at = descriptor_at(app_sel);
+    if state.image[at] == 0xFF {
         return (3, "3 descriptor begins with FFh");
     }
-    if (1..app_sel).any(|a| state.image[at(a)] == 0xFF) {
+    if (1..app_sel).any(|a| state.image[descriptor_at(a)] == 0xFF) {
         return (3, "3 earlier descriptor begins with FFh");
     }
-    let count = state.image[at(app_sel) + 2] >> 4;
+    let count = state.image[at + 2] >> 4;
     if count == 0 || count > 8 {
         return (3, "3 host lane count not 1 to 8");
     }
     let first = own >> 1 & 7;
-    if state.image[at(app_sel) + 3] >> first & 1 == 0 {
+    if state.image[at + 3] >> first & 1 == 0 {
         return (4, "4 first lane not allowed");
     }
     if first + count > 8 {
@@ -302,7 +310,7 @@ const WANTED: &[(&str, &[&str])] = &[
             "1 ApplyDPInit changes AppSel outside DPDeactivated",
             "1 release: lane on no path", "1 release: whole path",
             "2 state is transient", "2 ApplyImmediate changes AppSel",
-            "3 AppSel above 8", "3 descriptor begins with FFh",
+            "3 descriptor begins with FFh",
             "3 earlier descriptor begins with FFh", "3 host lane count not 1 to 8",
             "4 AppSels differ", "4 first lane not allowed", "4 path runs past lane 7",
             "4 lane outside the path",
@@ -311,6 +319,15 @@ const WANTED: &[(&str, &[&str])] = &[
             "5 amplitude code not supported",
             "6 lane on another active path", "6 release: not DPDeactivated",
             "7 lane of the path not in the group", "7 release: lane of the path missing",
+        ],
+    ),
+    (
+        "AppSels 9 to 15",
+        &[
+            "present and passed", "AppSel 9 passed", "AppSel 15 passed",
+            "present, another rejection", "begins with FFh",
+            "behind an FFh in descriptors 1 to 8", "behind an FFh in descriptors 9 to 14",
+            "host lane count 0", "host lane count above 8", "hardware event on its path",
         ],
     ),
     (
@@ -633,6 +650,7 @@ impl Coverage {
             }
             let (code, reason) = judge(before, trigger, group);
             self.hit("verdicts fixed by a trigger", reason);
+            self.look_at_application(before, first, code, reason);
             let verdict = match code {
                 1 => Verdict::Pass { next: first },
                 code => Verdict::Reject { code },
@@ -668,6 +686,33 @@ impl Coverage {
             trigger_name(trigger),
             selected
         );
+    }
+
+    /// What a group of an AppSel above 8 was judged by.
+    fn look_at_application(&mut self, before: &State, lane: u8, code: u8, reason: &'static str) {
+        let app_sel = before.staged(lane) >> 4;
+        if app_sel <= 8 {
+            return;
+        }
+        let ended_low = (1..=8).any(|a| before.image[descriptor_at(a)] == 0xFF);
+        let count = before.image[descriptor_at(app_sel) + 2] >> 4;
+        self.hit("AppSels 9 to 15", match (code, reason) {
+            (1, _) => "present and passed",
+            (3, "3 descriptor begins with FFh") => "begins with FFh",
+            (3, "3 earlier descriptor begins with FFh") if ended_low => {
+                "behind an FFh in descriptors 1 to 8"
+            }
+            (3, "3 earlier descriptor begins with FFh") => "behind an FFh in descriptors 9 to 14",
+            (3, _) if count == 0 => "host lane count 0",
+            (3, _) => "host lane count above 8",
+            _ if reason == "4 AppSels differ" => return,
+            _ => "present, another rejection",
+        });
+        match (code, app_sel) {
+            (1, 9) => self.hit("AppSels 9 to 15", "AppSel 9 passed"),
+            (1, 15) => self.hit("AppSels 9 to 15", "AppSel 15 passed"),
+            _ => {}
+        }
     }
 
     fn look_at_work(&mut self, before: &State, lane: u8, outcome: &Outcome) {
@@ -753,6 +798,9 @@ impl Coverage {
             pair => panic!("the path table has no {:?}", pair),
         };
         self.hit("path table", name);
+        if before.active(lane) >> 4 > 8 {
+            self.hit("AppSels 9 to 15", "hardware event on its path");
+        }
         self.hit("path table", match path.count_ones() {
             1 => "path of 1 lane",
             8 => "path of 8 lanes",
@@ -874,8 +922,28 @@ fn write_event(address: u8, bytes: &[u8]) -> Event {
     Event::Write { address, count: bytes.len() as u8, data }
 }
 
-/// An image as a night begins with: a few Applications, limits, thresholds.
-fn make_image(rng: &mut Rng) -> [u8; IMAGE_LEN] {
+/// Puts a descriptor of a usual or odd shape, or one that ends the list.
+fn put_descriptor(rng: &mut Rng, image: &mut [u8; IMAGE_LEN], a: usize, end: usize) {
+    // Usual shapes of an Application: lane count, allowed first lanes.
+    const SHAPES: [(u8, u8); 8] = [
+        (8, 0x01), (4, 0x11), (2, 0x55), (1, 0xFF), (4, 0x1F), (2, 0x7F), (3, 0x09), (1, 0x0F),
+    ];
+    let (mut count, mut first) = SHAPES[if rng.percent(60) { (a - 1) % 8 } else { rng.below(8) }];
+    if rng.percent(8) {
+        count = rng.pick(&[0, 5, 6, 7, 9, 15]);
+    }
+    if rng.percent(8) {
+        first = rng.byte();
+    }
+    let place = DESCRIPTOR_PLACES[a - 1];
+    image[place] = if a == end { 0xFF } else { rng.byte() & 0x7F };
+    image[place + 1] = rng.byte();
+    image[place + 2] = count << 4 | rng.byte() & 0x0F;
+    image[place + 3] = first;
+}
+
+/// An image as a night begins with: some Applications, limits, thresholds.
+fn make_image(rng: &mut Rng, wild: bool) -> [u8; IMAGE_LEN] {
     let mut image = [0u8; IMAGE_LEN];
     if rng.percent(40) {
         for byte in image.iter_mut() {
@@ -883,24 +951,18 @@ fn make_image(rng: &mut Rng) -> [u8; IMAGE_LEN] {
         }
     }
     image[2] = rng.byte() & 0x3F | if rng.percent(12) { 0x40 } else { 0 };
-    // Usual shapes of an Application: lane count, allowed first lanes.
-    const SHAPES: [(u8, u8); 8] = [
-        (8, 0x01), (4, 0x11), (2, 0x55), (1, 0xFF), (4, 0x1F), (2, 0x7F), (3, 0x09), (1, 0x0F),
-    ];
     let end = if rng.percent(50) { 9 } else { 1 + rng.below(10) };
-    for a in 0..8 {
-        let (mut count, mut first) = SHAPES[if rng.percent(60) { a } else { rng.below(8) }];
-        if rng.percent(8) {
-            count = rng.pick(&[0, 5, 6, 7, 9, 15]);
+    for a in 1..=8 {
+        put_descriptor(rng, &mut image, a, end);
+    }
+    // The list goes on in most images, but not in those for measuring. From
+    // numbers of its own: the rest of a seed's night does not depend on it.
+    let mut more = Rng(!rng.0);
+    if wild && more.percent(75) {
+        let end = if more.percent(50) { 16 } else { 9 + more.below(7) };
+        for a in 9..=15 {
+            put_descriptor(&mut more, &mut image, a, end);
         }
-        if rng.percent(8) {
-            first = rng.byte();
-        }
-        let place = DESCRIPTORS + 4 * a;
-        image[place] = if a + 1 == end { 0xFF } else { rng.byte() & 0x7F };
-        image[place + 1] = rng.byte();
-        image[place + 2] = count << 4 | rng.byte() & 0x0F;
-        image[place + 3] = first;
     }
     image[P01 + 153] = rng.pick(&[0xFF, 0xF5, 0x73, 0x3F, 0x00, 0xF9]);
     image[P01 + 154] = rng.pick(&[0xFF, 0x77, 0x52, 0x25, 0x00, 0x7F]);
@@ -1067,13 +1129,13 @@ impl Maker {
     /// Puts one path into the DPConfig bytes to be staged; gives its lanes.
     fn stage_path(&mut self, config: &mut [u8; 8]) -> u8 {
         let mut app_sel = 1 + self.rng.byte() % 8;
-        if self.rng.percent(4) {
+        if self.rng.percent(if self.wild { 45 } else { 4 }) {
             app_sel = 9 + self.rng.byte() % 7;
         }
-        let place = DESCRIPTORS + 4 * (app_sel as usize - 1);
-        let (count, allowed) = match app_sel {
-            1..=8 => (self.state.image[place + 2] >> 4, self.state.image[place + 3]),
-            _ => (1 + self.rng.byte() % 4, 0xFF),
+        let place = descriptor_at(app_sel);
+        let (count, allowed) = match self.state.image[place + 2] >> 4 {
+            0 if app_sel > 8 => (1 + self.rng.byte() % 4, 0xFF),
+            count => (count, self.state.image[place + 3]),
         };
         let mut first = if allowed != 0 { self.rng.lane_of(allowed) } else { 0 };
         if self.rng.percent(6) {
@@ -1105,10 +1167,10 @@ impl Maker {
         if self.rng.percent(60) {
             return app_sel;
         }
-        let count = |a: u8| self.state.image[DESCRIPTORS + 4 * (a as usize - 1) + 2] >> 4;
-        let options = |a: u8| self.state.image[DESCRIPTORS + 4 * (a as usize - 1) + 3];
-        let like: Vec<u8> = (1..=8)
-            .filter(|&a| app_sel <= 8 && count(a) == count(app_sel) && options(a) >> first & 1 != 0)
+        let count = |a: u8| self.state.image[descriptor_at(a) + 2] >> 4;
+        let options = |a: u8| self.state.image[descriptor_at(a) + 3];
+        let like: Vec<u8> = (1..=15)
+            .filter(|&a| count(a) == count(app_sel) && options(a) >> first & 1 != 0)
             .collect();
         if like.is_empty() {
             app_sel
@@ -1402,7 +1464,7 @@ struct Made {
 }
 
 fn make_night(rng: &mut Rng, length: usize, wild: bool, coverage: &mut Coverage) -> Made {
-    let image = make_image(rng);
+    let image = make_image(rng, wild);
     let mut maker = Maker::new(rng.clone(), &image, wild);
     rng.next();
     let mut events = Vec::with_capacity(length);
@@ -1751,7 +1813,7 @@ impl Claims {
 /// Builds a state meant to be sound, with paths in any state, bits pending,
 /// groups in progress at any point; the caller asks whether it is.
 fn make_sound_state(rng: &mut Rng) -> State {
-    let mut image = make_image(rng);
+    let mut image = make_image(rng, true);
     // Bytes that no start would leave: soundness says nothing of them.
     for byte in image[P10 + 128..].iter_mut() {
         *byte = rng.byte();
@@ -1775,7 +1837,7 @@ fn make_sound_state(rng: &mut Rng) -> State {
     let mut free = 0xFFu8;
     let mut paths = Vec::new();
     for _ in 0..6 {
-        let app_sel = 1 + rng.byte() % 8;
+        let app_sel = 1 + rng.byte() % 15;
         let first = rng.byte() & 7;
         let lanes = match find_descriptor(&state.image, app_sel).and_then(|d| d.lanes_from(first)) {
             Some(lanes) if lanes & !free == 0 => lanes,

@@ -103,6 +103,62 @@ fn both_sides_of_each_line() {
     assert_eq!(bench.read(120, 9), Err(4));
 }
 
+/// An image whose descriptors 1 to 15 are all one of 4 lanes beginning on 0 or
+/// 4, each byte written at the address that 002 prints.
+fn fifteen_image() -> [u8; IMAGE_LEN] {
+    let mut image = [0u8; IMAGE_LEN];
+    for first_byte in (86..118).step_by(4).chain((P01 + 223..P01 + 251).step_by(4)) {
+        image[first_byte..first_byte + 4].copy_from_slice(&[0x11, 0x22, 0x44, 0x11]);
+    }
+    image
+}
+
+#[test]
+fn the_descriptors_of_both_areas_are_one_list() {
+    let closed_with = |app_sel: u8, changes: &[(usize, u8)]| {
+        let mut image = fifteen_image();
+        for &(place, byte) in changes {
+            image[place] = byte;
+        }
+        Bench::of(image).apply(0, &[app_sel << 4; 4], 143, 0x0F)
+    };
+    // AppSel 9 is there, or missing by its own count, or behind an end.
+    assert_eq!(closed_with(9, &[]), 1);
+    assert_eq!(closed_with(9, &[(P01 + 225, 0x04)]), 3);
+    assert_eq!(closed_with(9, &[(P01 + 225, 0x94)]), 3);
+    assert_eq!(closed_with(9, &[(P01 + 223, 0xFF)]), 3);
+    assert_eq!(closed_with(9, &[(114, 0xFF)]), 3);
+    assert_eq!(closed_with(9, &[(86, 0xFF)]), 3);
+    assert_eq!(closed_with(9, &[(P01 + 227, 0xFF)]), 1);
+    // An area of zeros holds no descriptor 9; the eight before it stay.
+    let zeros: Vec<(usize, u8)> = (P01 + 223..P01 + 251).map(|place| (place, 0)).collect();
+    assert_eq!(closed_with(9, &zeros), 3);
+    assert_eq!(closed_with(8, &zeros), 1);
+    assert_eq!(closed_with(8, &[(P01 + 223, 0xFF)]), 1);
+    // A bad count before it ends nothing, an FFh beside the list neither.
+    assert_eq!(closed_with(10, &[(P01 + 225, 0x04)]), 1);
+    assert_eq!(closed_with(15, &[(118, 0xFF), (P01 + 222, 0xFF), (P01 + 251, 0xFF)]), 1);
+    // AppSel 15, whose last byte, its first lanes, is 01h:250.
+    assert_eq!(closed_with(15, &[]), 1);
+    assert_eq!(closed_with(15, &[(P01 + 250, 0x10)]), 4);
+    assert_eq!(closed_with(15, &[(P01 + 249, 0x04)]), 3);
+    assert_eq!(closed_with(15, &[(P01 + 243, 0xFF)]), 3);
+}
+
+#[test]
+fn a_path_of_application_fifteen_goes_its_way() {
+    let mut bench = Bench::of(fifteen_image());
+    assert_eq!(bench.apply(4, &[0xF8; 4], 143, 0xF0), 1);
+    for _ in 0..4 {
+        assert_eq!(bench.hardware(5), 0);
+    }
+    assert_eq!(bench.image[DP_STATE + 2..DP_STATE + 4], [0x44, 0x44]);
+    // The list ends under it: the state is not sound any more.
+    bench.image[P01 + 239] = 0xFF;
+    let found = soundness::unsound_at(&bench.image, &bench.lanes);
+    assert_eq!(found.map(|(condition, _)| condition), Some('c'));
+}
+
 #[test]
 fn low_alarm_is_strict_and_high_byte_first() {
     let mut image = usual_image();

@@ -915,22 +915,19 @@ fn within_its_half(address: u8, count: u8) -> bool {
     count != 0 && (address & 127) as u32 + count as u32 <= 128
 }
 
-/// Descriptor of an AppSel of 1 to 8, if no descriptor up to it ends the
-/// list and its own host lane count is one a path can have.
+/// Descriptor of an AppSel of 1 to 15, if no descriptor up to it, in either
+/// area, ends the list and its own host lane count is one a path can have.
 #[inline]
 pub fn find_descriptor(image: &[u8; IMAGE_LEN], app_sel: u8) -> Option<Descriptor> {
-    if app_sel == 0 || app_sel > 8 {
+    if app_sel == 0 || app_sel > 15 {
         return None;
     }
-    let mut place = DESCRIPTORS;
-    for _ in 1..app_sel {
-        if image[place] == DESCRIPTOR_END {
-            return None;
-        }
-        place += 4;
+    if (1..=app_sel).any(|earlier| image[descriptor_place(earlier)] == DESCRIPTOR_END) {
+        return None;
     }
+    let place = descriptor_place(app_sel);
     let lane_count = image[place + 2] >> 4;
-    if image[place] == DESCRIPTOR_END || lane_count == 0 || lane_count > 8 {
+    if lane_count == 0 || lane_count > 8 {
         return None;
     }
     Some(Descriptor { lane_count, first_lanes: image[place + 3] })

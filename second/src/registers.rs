@@ -36,7 +36,7 @@ pub const MODULE_READY: u8 = 0x07;
 /// Lower 8-9: module flags, cleared by reading.
 pub const MODULE_FLAGS: usize = 8;
 pub const MODULE_FLAGS_END: usize = 10;
-/// Lower 86: the first of eight Application descriptors of four bytes.
+/// Lower 86: Application descriptors 1 to 8, of four bytes each.
 pub const DESCRIPTORS: usize = 86;
 /// A descriptor that begins with this ends the list.
 pub const DESCRIPTOR_END: u8 = 0xFF;
@@ -49,6 +49,11 @@ pub const PAGE_SELECT: usize = 127;
 pub const EQ_MAX_AND_AMPLITUDES: usize = P01 + 153;
 /// Bits 3-0 RxOutputEqPreCursorMax, bits 7-4 RxOutputEqPostCursorMax.
 pub const CURSOR_MAX: usize = P01 + 154;
+
+// ---- page 01h: the rest of the list of Applications ----
+
+/// 01h:223: Application descriptors 9 to 15, the last byte at 01h:250.
+pub const MORE_DESCRIPTORS: usize = P01 + 223;
 
 // ---- page 02h: received power limits, U16 in 0.1 uW, high byte first ----
 
@@ -134,6 +139,15 @@ pub mod answer {
     pub const BUSY: u8 = 7;
     pub const NO_SUCH_PLACE: u8 = 8;
     pub const MALFORMED: u8 = 9;
+}
+
+/// Where the descriptor of an AppSel of 1 to 15 begins.
+#[inline(always)]
+pub fn descriptor_place(app_sel: u8) -> usize {
+    match app_sel as usize {
+        low @ 1..=8 => DESCRIPTORS + 4 * (low - 1),
+        high => MORE_DESCRIPTORS + 4 * (high - 9),
+    }
 }
 
 /// AppSel of a DPConfig byte.

@@ -2,30 +2,46 @@
 ghost use mathlib.Core.Path.{_≡_};
 ghost use Prim.Native.Nat.{_≤_};
 ghost use lib.ListN.{length};
-ghost use Rattle.model.specs.Applications.{listReaches, lookup};
+ghost use Rattle.model.specs.Applications.{descriptorAt, listReaches, lookup};
 use model::application::Descriptor;
 use model::application::Lookup;
 
-// Where descriptor 1 stands.
+// Lower 86: where descriptor 1 stands.
 pub const DESCRIPTORS: usize = 86;
+
+// 01h:223: where the first descriptor on page 01h stands, and its number.
+pub const MORE_DESCRIPTORS: usize = 351;
+
+pub const FIRST_ON_PAGE: u8 = 9;
 
 // The bytes of a descriptor.
 pub const SIZE: usize = 4;
 
 // How many descriptors there are.
-pub const COUNT: u8 = 8;
+pub const COUNT: u8 = 15;
 
 // What a descriptor that ends the list begins with.
 pub const END: u8 = 255;
 
+// Where the descriptor of an Application begins.
+pub fn descriptor_at(app: u8) -> usize
+    requires { ⌜ 1 ≤ app ⌝ }
+    ensures { λ r. ⌜ r ≡ descriptorAt app ⌝ }
+{
+    if app < FIRST_ON_PAGE {
+        return DESCRIPTORS + SIZE * ((app - 1) as usize);
+    }
+    MORE_DESCRIPTORS + SIZE * ((app - FIRST_ON_PAGE) as usize)
+}
+
 // Whether no descriptor from 1 to app begins with FFh.
 pub fn list_reaches(image: &[u8], app: u8) -> bool
-    requires { ⌜ (length (now image) ≡ 768) × (app ≤ 8) ⌝ }
+    requires { ⌜ (length (now image) ≡ 768) × (app ≤ 15) ⌝ }
     ensures { λ r. ⌜ r ≡ listReaches (now (image .entry)) app ⌝ }
 {
     let mut reaches = true;
     for before in 0..app {
-        let first = image[DESCRIPTORS + SIZE * (before as usize)];
+        let first = image[descriptor_at(before + 1)];
         reaches = reaches & (first != END);
     }
     reaches
@@ -42,7 +58,7 @@ pub fn look_up(image: &[u8], app: u8) -> Lookup
     if COUNT < app {
         return Lookup::Missing;
     }
-    let at = DESCRIPTORS + SIZE * ((app as usize) - 1);
+    let at = descriptor_at(app);
     let reaches = list_reaches(image, app);
     let count = bits::take_field(image[at + 2], 4, 4);
     if reaches & (1 <= count) & (count <= 8) {

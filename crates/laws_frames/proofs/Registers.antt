@@ -3,6 +3,7 @@ use mathlib.Core.Path.{_≡_, refl}
 use mathlib.Core.Bool.{true}
 use mathlib.Core.Logic.{_⊎_, inl, inr}
 use Prim.Native.Nat.{ℕ, zero, suc, _+_, _%_, _≤_, _<_}
+use native.Mathlib.Decide.{decLt}
 use native.Mathlib.Omega.{arith}
 use lib.Dec.{eqb, leb}
 use lib.ListN.{getD}
@@ -17,9 +18,10 @@ use Rattle.bits.proofs.Lanes.{lane-in}
 use Rattle.bits.proofs.Loops.{all-at, all-ext, tab-ext}
 use Rattle.bits.proofs.Words.{word-ext}
 use Rattle.model.specs.Map.{Image, stateAt, statusAt, pendingAt, settingAt, settingOffsets, settingWidths, equalizerLimit, preLimit, postLimit, amplitudeSupport}
-use Rattle.model.specs.Applications.{applicationCount, descriptorAt, listReaches, hostLaneCount, isPresent, lookup}
+use Rattle.model.specs.Applications.{applicationCount, firstOnPage, descriptorAt, listReaches, hostLaneCount, isPresent, lookup}
 use Rattle.model.specs.View.{settingsAt, settingsOf, statesOf, applicationsOf, limitsOf}
 use Rattle.model.specs.declared.lane.Settings.{Settings}
+use Rattle.model.proofs.Descriptors.{in-lower, on-page}
 use Rattle.laws_frames.proofs.Outside.{SameOutside, SameWithin, get-same, get-within}
 
 -- ---- where lane fields lie
@@ -128,8 +130,10 @@ advertised-below h s i d = s .byte i (inl (omega (arith, advertised-between i d)
 
 -- every byte of a descriptor is one of them
 descriptor-in : (a i : ℕ) → 1 ≤ a → a ≤ applicationCount → descriptorAt a ≤ i → i < descriptorAt a + 4 → Advertised i
-unfolding descriptorAt
-descriptor-in a i l h f t = inl (omega arith, omega arith)
+descriptor-in a i l h f t = elim (decLt a firstOnPage) [
+  | yes p ↦ let e = in-lower a p in inl (omega (arith, e), omega (arith, e))
+  | no n ↦ let e = on-page a (omega arith) in inr (omega (arith, e), omega (arith, e))
+]
 
 module _ (x y : Image) (s : SameAdvertised x y) where
   reaches-same : (a : ℕ) → a ≤ applicationCount → listReaches y a ≡ listReaches x a

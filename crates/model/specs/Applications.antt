@@ -1,26 +1,30 @@
--- Applications and their descriptors (01 "Triggers and verdicts"; 002 table 8-22).
+-- Applications and their descriptors (01 "Triggers and verdicts", 02 Req 05; 002 table 8-22).
 use Prim.Native.Nat.{ℕ, _+_, _*_, _-_}
 use mathlib.Core.Bool.{Bool, not}
-use lib.Dec.{eqb, leb}
+use lib.Dec.{eqb, leb, ltb}
 use lib.ListN.{getD}
 use Rattle.bits.specs.Choice.{pick, both}
 use Rattle.bits.specs.Loop.{allBelow}
 use Rattle.bits.specs.Number.{field}
-use Rattle.model.specs.Map.{Image, descriptors}
+use Rattle.model.specs.Map.{Image, descriptors, moreDescriptors}
 use Rattle.model.specs.declared.application.Descriptor.{Descriptor}
 use Rattle.model.specs.declared.application.Lookup.{Lookup}
 use Rattle.model.specs.declared.application.Lookup.the-variants.{Missing, Found}
 
 abbrev pub applicationCount : ℕ
-applicationCount = 8
+applicationCount = 15
+
+-- the first descriptor on page 01h; those before it stand in lower memory
+abbrev pub firstOnPage : ℕ
+firstOnPage = 9
 
 -- AppSel is a nibble: the view looks up each value that it can have
 abbrev pub appSelCount : ℕ
 appSelCount = 16
 
--- the first byte of descriptor a, counted from 1
+-- the first byte of descriptor a, counted from 1 through both areas
 unfoldable pub descriptorAt : ℕ → ℕ
-descriptorAt a = descriptors + 4 * (a - 1)
+descriptorAt a = pick (ltb a firstOnPage) (descriptors + 4 * (a - 1)) (moreDescriptors + 4 * (a - firstOnPage))
 
 abbrev pub endOfList : ℕ
 endOfList = 0xff

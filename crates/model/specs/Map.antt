@@ -82,6 +82,12 @@ preLimit = record { byte = on page01 154; shift = 0; width = 4 }
 abbrev pub postLimit : Place
 postLimit = record { byte = on page01 154; shift = 4; width = 4 }
 
+-- ---- page 01h: the list of Applications goes on
+
+-- 223 on: the descriptors of Applications 9 to 15, four bytes each (002 table 8-59)
+abbrev pub moreDescriptors : ℕ
+moreDescriptors = on page01 223
+
 -- ---- page 02h: received power limits, two bytes each, in 0.1 µW (002 table 8-63)
 abbrev pub highAlarm : ℕ
 highAlarm = on page02 192

@@ -23,7 +23,7 @@ starred =
       events = applied 145 (0x20 ∷ 0x20 ∷ 0x20 ∷ 0x20 ∷ []) 0x0f 0;
       seen = "0 0" ∷ "1 0" ∷ "2 0" ∷ "3 0" ∷ "4 0" ∷ "5 0 33 33 00 00" ∷ [];
     }
-    -- AppSel 9: 3
+    -- AppSel 9: 3, for its descriptor is missing (amended by 02 Req 05)
     ∷ record {
       image = fourLanes;
       events = applied 145 (0x90 ∷ 0x90 ∷ 0x90 ∷ 0x90 ∷ []) 0x0f 0;

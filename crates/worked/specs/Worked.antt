@@ -1,7 +1,7 @@
 -- Worked cases beside the starred ones.
-use mathlib.Core.List.{List, [], _∷_}
-use Rattle.model.specs.Map.{on, page01, highAlarm}
-use Rattle.starred.specs.Case.{Case, blank, holding, fourLanes, write, read, work, hardware, condition, sample, selectPage}
+use mathlib.Core.List.{List, [], _∷_, _++_}
+use Rattle.model.specs.Map.{Image, on, page01, highAlarm}
+use Rattle.starred.specs.Case.{Case, blank, holding, fourLanes, write, read, work, hardware, condition, sample, selectPage, applied}
 
 -- the night of 01's example
 abbrev pub example : Case
@@ -16,6 +16,10 @@ example =
           "0 0" ∷ "1 0" ∷ "2 0" ∷ "3 0" ∷ "4 0" ∷ "5 0 cc cc 00 00" ∷ "6 0" ∷ "7 0" ∷ "8 0" ∷ "9 0" ∷ "10 0 11 11 00 00"
           ∷ "11 0 10 10 10 10 00" ∷ "12 0 0f" ∷ "13 6" ∷ "14 0" ∷ "15 0 22 22" ∷ [];
     }
+
+-- Applications 9 and 15 of one host lane each: 9 may begin on lane 0 and 15 on lane 7, said in its last byte, 01h:250
+abbrev pub nineAndFifteen : Image
+nineAndFifteen = holding (on page01 225) (0x11 ∷ 0x01 ∷ []) (holding (on page01 249) (0x11 ∷ 0x80 ∷ []) blank)
 
 abbrev pub worked : List Case
 worked =
@@ -75,6 +79,36 @@ worked =
           ∷ "14 0 00" ∷ "15 0" ∷ "16 0" ∷ "17 0" ∷ "18 0" ∷ "19 0" ∷ "20 0" ∷ "21 0" ∷ "22 0" ∷ "23 0" ∷ "24 0" ∷ "25 0" ∷ "26 0" ∷ "27 0"
           ∷ "28 0 11 11 11 11 00 00 0f" ∷ "29 0 77 67 00 00" ∷ "30 0" ∷ "31 0" ∷ "32 0" ∷ "33 0" ∷ "34 0" ∷ "35 0" ∷ "36 0" ∷ "37 6" ∷ "38 0"
           ∷ "39 0 11 11 00 00 00 00 00 00 00 00 00 00 00 00 00 00 00 00 00 00 00 00 00 00 00 00 00 00 00 00 00 00 00 00" ∷ [];
+    }
+    -- AppSel 9, present: 1
+    ∷ record {
+      image = nineAndFifteen;
+      events = applied 145 (0x90 ∷ []) 0x01 0 ++ (work 0 ∷ read 202 5 ∷ []);
+      seen = "0 0" ∷ "1 0" ∷ "2 0" ∷ "3 0" ∷ "4 0" ∷ "5 0 0c 00 00 00" ∷ "6 0" ∷ "7 0 01 00 00 00 90" ∷ [];
+    }
+    -- .. behind an FFh at 8: 3
+    ∷ record {
+      image = holding 114 (0xff ∷ []) nineAndFifteen;
+      events = applied 145 (0x90 ∷ []) 0x01 0;
+      seen = "0 0" ∷ "1 0" ∷ "2 0" ∷ "3 0" ∷ "4 0" ∷ "5 0 03 00 00 00" ∷ [];
+    }
+    -- .. behind an FFh at 1: 3
+    ∷ record {
+      image = holding 86 (0xff ∷ []) nineAndFifteen;
+      events = applied 145 (0x90 ∷ []) 0x01 0;
+      seen = "0 0" ∷ "1 0" ∷ "2 0" ∷ "3 0" ∷ "4 0" ∷ "5 0 03 00 00 00" ∷ [];
+    }
+    -- AppSel 15, present: 4 on lane 6, which 01h:250 does not allow, and 1 on lane 7
+    ∷ record {
+      image = nineAndFifteen;
+      events = applied 151 (0xfc ∷ 0xfe ∷ []) 0xc0 6 ++ (work 7 ∷ work 7 ∷ read 202 4 ∷ read 212 2 ∷ []);
+      seen = "0 0" ∷ "1 0" ∷ "2 0" ∷ "3 0" ∷ "4 0" ∷ "5 0 00 00 00 c4" ∷ "6 0" ∷ "7 0" ∷ "8 0 00 00 00 14" ∷ "9 0 00 fe" ∷ [];
+    }
+    -- .. with host count 0: 3
+    ∷ record {
+      image = holding (on page01 249) (0x01 ∷ []) nineAndFifteen;
+      events = applied 152 (0xfe ∷ []) 0x80 7;
+      seen = "0 0" ∷ "1 0" ∷ "2 0" ∷ "3 0" ∷ "4 0" ∷ "5 0 00 00 00 30" ∷ [];
     }
     -- pages: 126 alone is stored, 10h needs bank 0, a bad page resets both
     ∷ record {

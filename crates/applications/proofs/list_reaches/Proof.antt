@@ -4,7 +4,7 @@ use native.Mathlib.Omega.{arith}
 use mathlib.Core.Path.{_≡_}
 use Prim.Native.Nat.{_≤_, _-_}
 use Rattle.model.specs.Applications.{listReaches}
-use Rattle.applications.proofs.Laws.{reaches-begin, reaches-turn}
+use Rattle.applications.proofs.Laws.{descriptor-fits, reaches-begin, reaches-turn}
 use Rattle.applications.proofs.list_reaches.Statement.{statement}
 use Rattle.applications.proofs.list_reaches.Tie as tie
 
@@ -17,17 +17,14 @@ abbrev μ-loop : tie.MeasureT-loop
 loop-holds : tie.Need-loop-holds Inv-loop μ-loop
 loop-holds c = (search needs, reaches-begin _)
 
-cast-first : tie.Need-cast-first Inv-loop μ-loop
-cast-first c = search needs
+add-descriptor-at : tie.Need-add-descriptor-at Inv-loop μ-loop
+add-descriptor-at c = search needs
 
-mul-first : tie.Need-mul-first Inv-loop μ-loop
-mul-first c = search needs
-
-add-first : tie.Need-add-first Inv-loop μ-loop
-add-first c = search needs
+descriptor-at-requires : tie.Need-descriptor-at-requires Inv-loop μ-loop
+descriptor-at-requires c κs = search needs
 
 shared-slice-read-first : tie.Need-shared-slice-read-first Inv-loop μ-loop
-shared-slice-read-first c = search needs
+shared-slice-read-first c = let f = descriptor-fits (c .before .descriptor-at .ensures) (omega arith) in search (needs, f)
 
 add-before : tie.Need-add-before Inv-loop μ-loop
 add-before c = search needs
@@ -36,10 +33,10 @@ loop-less : tie.Need-loop-less Inv-loop μ-loop
 loop-less c = search needs
 
 loop-again : tie.Need-loop-again Inv-loop μ-loop
-loop-again c = (search needs, reaches-turn _ _ _ (c .before .before .loop .inv .1))
+loop-again c = (search needs, reaches-turn _ _ _ _ (c .before .descriptor-at .ensures) (c .before .before .before .loop .inv .1))
 
 returns : tie.Need-returns Inv-loop μ-loop
-returns c = let e : c .before .loop .before ≡ c .before .before .args .app = omega arith in rw e at (c .before .loop .inv .1)
+returns c = let e : c .before .loop .before ≡ c .before .before .before .args .app = omega arith in rw e at (c .before .loop .inv .1)
 
 pub list-reaches-spec : {M : Type 1} → statement M
 list-reaches-spec =
@@ -48,9 +45,8 @@ list-reaches-spec =
     Inv-loop
     μ-loop
     loop-holds
-    cast-first
-    mul-first
-    add-first
+    add-descriptor-at
+    descriptor-at-requires
     shared-slice-read-first
     add-before
     loop-less

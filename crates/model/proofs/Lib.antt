@@ -1,0 +1,2 @@
+-- Where descriptors lie.
+pub mod Descriptors
