@@ -22,6 +22,7 @@ use Rattle.model.specs.Triggers.{State}
 use Rattle.model.specs.Hardware.{nextState, withState, entered, moved, movedPath, hardwareMoved}
 use Rattle.model.specs.Access.{withImage}
 use Rattle.model.specs.declared.path.PathState.{PathState}
+use Rattle.model.specs.declared.path.Signals.{Signals}
 use Rattle.model.specs.declared.path.PathState.the-variants.{Reserved, Deactivated, Init, Deinit, Activated, TxTurnOn, TxTurnOff, Initialized}
 use Rattle.laws_frames.proofs.Outside.{below-range, above-range}
 use Rattle.laws_frames.proofs.Registers.{settings-same, applications-same, status-same, state-same, pending-same}
@@ -59,16 +60,16 @@ pick-low true to from p q = p
 pick-low false to from p q = q
 
 -- a path leaves no state for a reserved one
-next-low : (from : PathState) (s r : Bool) → 1 ≤ codeOf from → 1 ≤ codeOf (nextState from s r)
+next-low : (from : PathState) (by : Signals) → 1 ≤ codeOf from → 1 ≤ codeOf (nextState from by)
 unfolding nextState
-next-low Reserved s r h = h
-next-low Deactivated s r h = pick-low s Deactivated Init (omega arith) (omega arith)
-next-low Init s r h = pick-low s Deinit Initialized (omega arith) (omega arith)
-next-low Initialized s r h = pick-low r Deinit TxTurnOn (omega arith) (omega arith)
-next-low TxTurnOn s r h = pick-low r TxTurnOff Activated (omega arith) (omega arith)
-next-low Activated s r h = pick-low r TxTurnOff Activated (omega arith) (omega arith)
-next-low TxTurnOff s r h = omega arith
-next-low Deinit s r h = omega arith
+next-low Reserved by h = h
+next-low Deactivated by h = pick-low (by .deinit) Deactivated Init (omega arith) (omega arith)
+next-low Init by h = pick-low (by .deinit) Deinit Initialized (omega arith) (omega arith)
+next-low Initialized by h = pick-low (by .reinit) Deinit TxTurnOn (omega arith) (omega arith)
+next-low TxTurnOn by h = pick-low (by .reinit) TxTurnOff Activated (omega arith) (omega arith)
+next-low Activated by h = pick-low (by .reinit) TxTurnOff Activated (omega arith) (omega arith)
+next-low TxTurnOff by h = omega arith
+next-low Deinit by h = omega arith
 
 pub states-lane : (x : Image) (l : ℕ) → l < 8 → stateIn (statesOf x) l ≡ get x (stateAt l)
 unfolding statesOf
@@ -146,4 +147,4 @@ module _ (two : ℕ) (s : State) (W : Well two s) (l : ℕ) (b : l < 8) (idle : 
   hardware-well u =
       let I : InWhole (seenOf s) l = W .sound .used l b (idle-passing _ idle) u in
       let e : stateIn (statesOf (s .image)) l ≡ get (s .image) (stateAt l) = states-lane (s .image) l b in
-      moved-well _ _ _ (next-low _ _ _ (code-low (get (s .image) (stateAt l)) (omega (arith, I .low)) (omega (arith, I .high))))
+      moved-well _ _ _ (next-low _ _ (code-low (get (s .image) (stateAt l)) (omega (arith, I .low)) (omega (arith, I .high))))

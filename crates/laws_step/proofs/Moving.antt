@@ -14,7 +14,7 @@ use Rattle.model.specs.PathStates.{codeOf, stateOf, resting}
 use Rattle.model.specs.View.{settingsOf, pathOf}
 use Rattle.model.specs.Triggers.{State}
 use Rattle.model.specs.Work.{withPending}
-use Rattle.model.specs.Hardware.{toDeinit, toReinit, nextState, isState, withState, withFlags, initialized, entered, moved, movedPath, hardwareMoved}
+use Rattle.model.specs.Hardware.{signalsOf, nextState, isState, withState, withFlags, initialized, entered, moved, movedPath, hardwareMoved}
 use Rattle.model.specs.Flags.{settled}
 use Rattle.model.specs.Step.{event, carried, done}
 use Rattle.model.specs.declared.answer.Answer.the-variants.{Done}
@@ -154,8 +154,8 @@ module _ (room : ℕ) (s : State) (bytes : List ℕ) (l : ℕ) (d : stepOn room 
   unfolding done carried
   hardware-keeps-records = rw (done-step room s (event (Hardware l) bytes) d)
 
-  -- the path of lane l goes from the state that lane l shows to the one that follows by S and R
+  -- the path of lane l goes from the state that lane l shows to the one that follows by the path's signals
   pub hardware-moves : length (s .image) ≡ 768 → let g = pathOf (settingsOf activeSet (s .image)) l in let from = stateOf (get (s .image) (stateAt l)) in
-      PathMoved g from (nextState from (toDeinit (s .image) g) (toReinit (s .image) g)) (s .image) (stepOn room s (Hardware l) bytes .state .image)
+      PathMoved g from (nextState from (signalsOf (s .image) g)) (s .image) (stepOn room s (Hardware l) bytes .state .image)
   unfolding done carried hardwareMoved movedPath
   hardware-moves size = rw (done-step room s (event (Hardware l) bytes) d) (path-moved _ _ _ (s .image) size)

@@ -3,19 +3,20 @@ use mathlib.Core.Path.{_≡_, refl, sym}
 use mathlib.Core.Bool.{Bool, true, false}
 use Prim.Native.Nat.{ℕ, _+_, _*_, _/_, _%_, _≤_, _<_}
 use native.Mathlib.Omega.{arith}
-use lib.Dec.{eqb}
 use lib.ListN.{getD, set}
-use Rattle.bits.specs.Choice.{pick, onlyIf, both}
+use Rattle.bits.specs.Choice.{pick, onlyIf}
+use Rattle.bits.specs.Lane.{laneField}
 use Rattle.bits.specs.Place.{get, put, digit}
 use Rattle.bits.specs.Sets.{has}
 use Rattle.bits.specs.Word.{putWord}
+use Rattle.bits.specs.declared.Place.{Place}
 use Rattle.bits.proofs.Loops.{each-two, any-ext}
-use Rattle.model.specs.Map.{Image, stateAt, statusAt, pendingAt, deinitAt, flagAt, interruptBit, steppedBit, receivedPower, clearing}
+use Rattle.model.specs.Map.{Image, stateAt, statusAt, pendingAt, flagAt, interruptBit, steppedBit, receivedPower, clearing}
 use Rattle.model.specs.Groups.{someIn}
 use Rattle.model.specs.Triggers.{withStatus, isIgnored}
 use Rattle.model.specs.PathStates.{codeOf}
 use Rattle.model.specs.Work.{withPending, pendingAfter}
-use Rattle.model.specs.Hardware.{toDeinit, toReinit, nextState, withState, withFlags, entered, moved, movedPath}
+use Rattle.model.specs.Hardware.{someBit, toDeinit, toReinit, signalsOf, nextState, withState, withFlags, entered, moved, movedPath}
 use Rattle.model.specs.Flags.{raised, sampled, isUnmasked, interrupts, settled, conditionSet, power}
 use Rattle.model.specs.Pages.{withPage, pagePlace, selectedStart, placeOf, pageSelected}
 use Rattle.model.specs.Access.{cleared}
@@ -121,19 +122,27 @@ module _ (c : ℕ → Bool) (x y : Image) (A : Alike (activeBitOf c) x y) where
   pub state-read : (l : ℕ) → l < 8 → get y (stateAt l) ≡ get x (stateAt l)
   state-read l b = state-same x y l b (λ i a h. low i (omega arith))
 
+  some-same : (place : ℕ → Place) (g : ℕ) → ((m : ℕ) → m < 8 → get y (place m) ≡ get x (place m)) → someBit y place g ≡ someBit x place g
+  unfolding someBit someIn
+  some-same place g same = any-ext 8 _ _ (λ m b. rw (same m b))
+
+  -- a byte of controls, a bit a lane
+  control-same : (byte g : ℕ) → byte < 718 → someBit y (laneField byte 1) g ≡ someBit x (laneField byte 1) g
+  control-same byte g h = some-same (laneField byte 1) g (λ m b. get-same x y (laneField byte 1 m) (low _ (omega (arith, lane-to byte 1 m b refl))))
+
   deinit-same : (g : ℕ) → toDeinit y g ≡ toDeinit x g
-  unfolding toDeinit someIn
-  deinit-same g = any-ext 8 _ _ (λ m b. rw (get-same x y (deinitAt m) (low _ (omega (arith, lane-to 512 1 m b refl)))))
+  unfolding toDeinit
+  deinit-same g = control-same 512 g (omega arith)
 
   reinit-same : (g : ℕ) → toReinit y g ≡ toReinit x g
-  unfolding toReinit someIn
-  reinit-same g = rw (
-    deinit-same g,
-    any-ext 8 (λ m. both (has g m) (eqb (get y (pendingAt m)) 1)) (λ m. both (has g m) (eqb (get x (pendingAt m)) 1))
-        (λ m b. rw (pending-same x y m b (λ i a h. sym (alike-above c x y A i (omega arith))))),
-  )
+  unfolding toReinit
+  reinit-same g = rw (deinit-same g, some-same pendingAt g (λ m b. pending-same x y m b (λ i a h. sym (alike-above c x y A i (omega arith)))))
+
+  signals-same : (g : ℕ) → signalsOf y g ≡ signalsOf x g
+  unfolding signalsOf
+  signals-same g = λ i. record { deinit = deinit-same g i; reinit = reinit-same g i }
 
   pub alike-moved : (g : ℕ) (from : PathState) → Alike (activeBitOf c) (movedPath x g from) (movedPath y g from)
   unfolding movedPath moved
-  alike-moved g from = rw (deinit-same g, reinit-same g)
-      (alike-only (activeBitOf c) _ (entered g from (nextState from (toDeinit x g) (toReinit x g))) x y (alike-entered (activeBitOf c) g from _ x y) A)
+  alike-moved g from = rw (signals-same g)
+      (alike-only (activeBitOf c) _ (entered g from (nextState from (signalsOf x g))) x y (alike-entered (activeBitOf c) g from _ x y) A)

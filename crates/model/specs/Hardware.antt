@@ -7,32 +7,42 @@ use Rattle.bits.specs.Choice.{pick, onlyIf, either}
 use Rattle.bits.specs.Loop.{each}
 use Rattle.bits.specs.Place.{get, put}
 use Rattle.bits.specs.Sets.{has}
+use Rattle.bits.specs.declared.Place.{Place}
 use Rattle.model.specs.Map.{Image, laneCount, activeSet, stateAt, pendingAt, deinitAt, flagAt, stateChanged}
 use Rattle.model.specs.PathStates.{stateOf, codeOf, resting}
 use Rattle.model.specs.View.{settingsOf, pathOf}
 use Rattle.model.specs.Groups.{someIn}
 use Rattle.model.specs.Work.{withPending}
 use Rattle.model.specs.declared.path.PathState.{PathState}
+use Rattle.model.specs.declared.path.Signals.{Signals}
 use Rattle.model.specs.declared.path.PathState.the-variants.{Reserved, Deactivated, Init, Deinit, Activated, TxTurnOn, TxTurnOff, Initialized}
+
+-- a lane of the set has its bit 1 in a register of one bit a lane
+unfoldable pub someBit : Image → (ℕ → Place) → ℕ → Bool
+someBit x place g = someIn g (λ m. eqb (get x (place m)) 1)
 
 -- S: a DPDeinit bit of the path's lanes is 1
 unfoldable pub toDeinit : Image → ℕ → Bool
-toDeinit x g = someIn g (λ m. eqb (get x (deinitAt m)) 1)
+toDeinit x g = someBit x deinitAt g
 
 -- R: S, or a DPInitPending bit of the path's lanes is 1
 unfoldable pub toReinit : Image → ℕ → Bool
-toReinit x g = either (toDeinit x g) (someIn g (λ m. eqb (get x (pendingAt m)) 1))
+toReinit x g = either (toDeinit x g) (someBit x pendingAt g)
 
--- the path table: the state that follows, by S and R
-unfoldable pub nextState : PathState → Bool → Bool → PathState
-nextState Reserved s r = Reserved
-nextState Deactivated s r = pick s Deactivated Init
-nextState Init s r = pick s Deinit Initialized
-nextState Initialized s r = pick r Deinit TxTurnOn
-nextState TxTurnOn s r = pick r TxTurnOff Activated
-nextState Activated s r = pick r TxTurnOff Activated
-nextState TxTurnOff s r = Initialized
-nextState Deinit s r = Deactivated
+-- the signals of a path
+unfoldable pub signalsOf : Image → ℕ → Signals
+signalsOf x g = record { deinit = toDeinit x g; reinit = toReinit x g }
+
+-- the path table: the state that follows, by the path's signals
+unfoldable pub nextState : PathState → Signals → PathState
+nextState Reserved by = Reserved
+nextState Deactivated by = pick (by .deinit) Deactivated Init
+nextState Init by = pick (by .deinit) Deinit Initialized
+nextState Initialized by = pick (by .reinit) Deinit TxTurnOn
+nextState TxTurnOn by = pick (by .reinit) TxTurnOff Activated
+nextState Activated by = pick (by .reinit) TxTurnOff Activated
+nextState TxTurnOff by = Initialized
+nextState Deinit by = Deactivated
 
 unfoldable pub isState : PathState → PathState → Bool
 isState a b = eqb (codeOf a) (codeOf b)
@@ -58,7 +68,7 @@ unfoldable pub moved : ℕ → PathState → PathState → Image → Image
 moved g from to x = onlyIf (not (isState from to)) (entered g from to) x
 
 unfoldable pub movedPath : Image → ℕ → PathState → Image
-movedPath x g from = moved g from (nextState from (toDeinit x g) (toReinit x g)) x
+movedPath x g from = moved g from (nextState from (signalsOf x g)) x
 
 -- a hardware event on the path of a used lane
 unfoldable pub hardwareMoved : Image → ℕ → Image

@@ -14,6 +14,12 @@ pub enum PathState {
     Initialized,
 }
 
+// What decides where a path goes: S, it is to be taken down; R, it is to be taken down or brought up anew.
+pub struct Signals {
+    pub deinit: bool,
+    pub reinit: bool,
+}
+
 impl PathState {
     pub const RESERVED: u8 = 0;
 

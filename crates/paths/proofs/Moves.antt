@@ -1,6 +1,5 @@
 -- What entering a state and a hardware event leave, step by step. Assumes nothing.
 use mathlib.Core.Path.{_≡_}
-use mathlib.Core.Bool.{Bool}
 use Prim.Native.Nat.{ℕ}
 use Rattle.bits.specs.Choice.{onlyIf}
 use Rattle.bits.specs.Lane.{laneField}
@@ -11,15 +10,16 @@ use Rattle.model.specs.Map.{Image, activeSet, stateAt, stateChanged}
 use Rattle.model.specs.PathStates.{codeOf, stateOf, resting}
 use Rattle.model.specs.View.{settingsOf, pathOf}
 use Rattle.model.specs.Work.{withPending}
-use Rattle.model.specs.Hardware.{toDeinit, toReinit, nextState, initialized, withState, withFlags, entered, moved, movedPath, hardwareMoved}
+use Rattle.model.specs.Hardware.{signalsOf, nextState, initialized, withState, withFlags, entered, moved, movedPath, hardwareMoved}
 use Rattle.model.specs.declared.path.PathState.{PathState}
+use Rattle.model.specs.declared.path.Signals.{Signals}
 
 pub entered-by : (g v : ℕ) (from to : PathState) (x x₁ x₂ x₃ : Image) → v ≡ codeOf to → x₁ ≡ each (has g) (λ l y. put y (laneField 640 4 l) v) 8 x
     → x₂ ≡ onlyIf (initialized from to) (withPending (has g) 0) x₁ → x₃ ≡ onlyIf (resting to) (withFlags stateChanged g) x₂ → x₃ ≡ entered g from to x
 unfolding entered withState
 entered-by g v from to x x₁ x₂ x₃ p q r s = rw (s, r, q, p)
 
-pub moved-by : (l g n : ℕ) (from to : PathState) (s r : Bool) (x y : Image) → g ≡ pathOf (settingsOf activeSet x) l → n ≡ get x (stateAt l) → from ≡ stateOf n
-    → s ≡ toDeinit x g → r ≡ toReinit x g → to ≡ nextState from s r → y ≡ moved g from to x → y ≡ hardwareMoved x l
+pub moved-by : (l g n : ℕ) (from to : PathState) (by : Signals) (x y : Image) → g ≡ pathOf (settingsOf activeSet x) l → n ≡ get x (stateAt l) → from ≡ stateOf n
+    → by ≡ signalsOf x g → to ≡ nextState from by → y ≡ moved g from to x → y ≡ hardwareMoved x l
 unfolding hardwareMoved movedPath
-moved-by l g n from to s r x y hg hn hf hs hr ht hy = rw (hy, ht, hs, hr, hf, hn, hg)
+moved-by l g n from to by x y hg hn hf hb ht hy = rw (hy, ht, hb, hf, hn, hg)

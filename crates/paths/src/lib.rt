@@ -1,20 +1,19 @@
 // Paths: which lanes an active DataPathID joins, and the hardware event that moves a path from state to state.
 ghost use mathlib.Core.Path.{_≡_};
 ghost use Prim.Native.Nat.{_+_, _≤_, _<_};
-ghost use lib.Dec.{eqb};
 ghost use lib.ListN.{length};
 ghost use Rattle.bits.specs.Choice.{onlyIf};
 ghost use Rattle.bits.specs.Sets.{has};
 ghost use Rattle.bits.specs.Lane.{laneField};
-ghost use Rattle.bits.specs.Place.{get};
 ghost use Rattle.model.specs.Map.{activeSet, stateChanged};
 ghost use Rattle.model.specs.PathStates.{resting};
 ghost use Rattle.model.specs.View.{appSel, pathId, of, isUsed, settingsOf, samePath, pathOf};
 ghost use Rattle.model.specs.Groups.{someIn};
 ghost use Rattle.model.specs.Work.{withPending};
-ghost use Rattle.model.specs.Hardware.{toDeinit, toReinit, nextState, initialized, withFlags, entered, moved, hardwareMoved};
+ghost use Rattle.model.specs.Hardware.{someBit, toDeinit, toReinit, signalsOf, nextState, initialized, withFlags, entered, moved, hardwareMoved};
 use map::ACTIVE_SET;
 use model::path::PathState;
+use model::path::Signals;
 
 // A lane's AppSel in the set at a base.
 pub fn app_at(image: &[u8], base: usize, lane: u8) -> u8
@@ -72,7 +71,7 @@ pub fn meets(a: u8, b: u8) -> bool
 // Whether a lane of the set has its bit of a byte 1.
 pub fn some_bit(image: &[u8], at: usize, set: u8) -> bool
     requires { ⌜ at + 1 ≤ length (now image) ⌝ }
-    ensures { λ r. ⌜ r ≡ someIn set (λ m. eqb (get (now (image .entry)) (laneField at 1 m)) 1) ⌝ }
+    ensures { λ r. ⌜ r ≡ someBit (now (image .entry)) (laneField at 1) set ⌝ }
 {
     meets(set, image[at])
 }
@@ -93,35 +92,45 @@ pub fn to_reinit(image: &[u8], path: u8) -> bool
     to_deinit(image, path) | some_bit(image, map::PENDING, path)
 }
 
-// The state that follows, by S and R.
-pub fn next_state(from: PathState, s: bool, r: bool) -> PathState
-    ensures { λ to. ⌜ to ≡ nextState from s r ⌝ }
+// The signals of a path.
+pub fn signals_of(image: &[u8], path: u8) -> Signals
+    requires { ⌜ length (now image) ≡ 768 ⌝ }
+    ensures { λ r. ⌜ r ≡ signalsOf (now (image .entry)) path ⌝ }
+{
+    let deinit = to_deinit(image, path);
+    let reinit = to_reinit(image, path);
+    Signals { deinit, reinit }
+}
+
+// The state that follows, by the path's signals.
+pub fn next_state(from: PathState, by: Signals) -> PathState
+    ensures { λ to. ⌜ to ≡ nextState from by ⌝ }
 {
     match from {
         PathState::Reserved => PathState::Reserved,
-        PathState::Deactivated => if s {
+        PathState::Deactivated => if by.deinit {
             PathState::Deactivated
         } else {
             PathState::Init
         },
-        PathState::Init => if s {
+        PathState::Init => if by.deinit {
             PathState::Deinit
         } else {
             PathState::Initialized
         },
         PathState::Deinit => PathState::Deactivated,
-        PathState::Activated => if r {
+        PathState::Activated => if by.reinit {
             PathState::TxTurnOff
         } else {
             PathState::Activated
         },
-        PathState::TxTurnOn => if r {
+        PathState::TxTurnOn => if by.reinit {
             PathState::TxTurnOff
         } else {
             PathState::Activated
         },
         PathState::TxTurnOff => PathState::Initialized,
-        PathState::Initialized => if r {
+        PathState::Initialized => if by.reinit {
             PathState::Deinit
         } else {
             PathState::TxTurnOn
@@ -199,6 +208,6 @@ pub fn move_path(image: &mut [u8], lane: u8)
 {
     let path = path_of(image, lane);
     let from = PathState::of(lanes::nibble(image, map::STATES, lane));
-    let to = next_state(from, to_deinit(image, path), to_reinit(image, path));
+    let to = next_state(from, signals_of(image, path));
     move_to(image, path, from, to);
 }

@@ -13,11 +13,8 @@ nibble-requires c κs = search needs
 of-requires : tie.Need-of-requires
 of-requires c κs = search needs
 
-to-deinit-requires : tie.Need-to-deinit-requires
-to-deinit-requires c κs = search needs
-
-to-reinit-requires : tie.Need-to-reinit-requires
-to-reinit-requires c κs = search needs
+signals-of-requires : tie.Need-signals-of-requires
+signals-of-requires c κs = search needs
 
 next-state-requires : tie.Need-next-state-requires
 next-state-requires c κs = search needs
@@ -30,11 +27,11 @@ same-length c = search needs
 
 returns : tie.Need-returns
 returns c =
-    moved-by _ _ _ _ _ _ _ _ _
-    (c .before .before .before .before .before .before .before .before .before .before .before .before .path-of .ensures)
-    (c .before .before .before .before .before .before .before .before .before .before .nibble .ensures)
-    (c .before .before .before .before .before .before .before .before .before .of .ensures)
-    (c .before .before .before .before .before .before .before .to-deinit .ensures) (c .before .before .before .before .before .to-reinit .ensures)
+    moved-by _ _ _ _ _ _ _ _
+    (c .before .before .before .before .before .before .before .before .before .before .path-of .ensures)
+    (c .before .before .before .before .before .before .before .before .nibble .ensures)
+    (c .before .before .before .before .before .before .before .of .ensures)
+    (c .before .before .before .before .before .signals-of .ensures)
     (c .before .before .before .before .next-state .ensures) (c .before .before .move-to .ensures)
 
 pub move-path-spec : {M : Type 1} → statement M
@@ -44,8 +41,7 @@ move-path-spec =
     path-of-requires
     nibble-requires
     of-requires
-    to-deinit-requires
-    to-reinit-requires
+    signals-of-requires
     next-state-requires
     move-to-requires
     same-length

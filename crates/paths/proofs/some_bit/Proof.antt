@@ -3,6 +3,7 @@ use mathlib.Core.Path.{sym, ap, _∙_}
 use Rattle.bits.specs.Choice.{both}
 use Rattle.bits.proofs.Loops.{any-ext}
 use Rattle.model.specs.Groups.{someIn}
+use Rattle.model.specs.Hardware.{someBit}
 use Rattle.paths.proofs.Sets.{bit-has}
 use borrow.Author.Needs.{needs}
 use Rattle.paths.proofs.some_bit.Statement.{statement}
@@ -15,7 +16,7 @@ meets-requires : tie.Need-meets-requires
 meets-requires c κs = search needs
 
 returns : tie.Need-returns
-unfolding someIn
+unfolding someBit someIn
 returns c = c .meets .ensures ∙ any-ext 8 _ _ (λ m h. ap (both _) (sym (bit-has _ _ m h)))
 
 pub some-bit-spec : {M : Type 1} → statement M
