@@ -361,8 +361,15 @@ const WANTED: &[(&str, &[&str])] = &[
         &[
             "1 to 2", "1 stays by DPDeinit", "2 to 3 by DPDeinit", "2 to 7", "2 to 7, pending cleared",
             "7 to 3 by DPDeinit", "7 to 3 by DPInitPending", "7 to 5",
-            "5 to 6 by DPDeinit", "5 to 4",
-            "4 to 6 by DPDeinit", "4 to 6 by DPInitPending", "4 stays", "6 to 7", "3 to 1",
+            "7 to 3 by DPDeinit, muted as well", "7 to 3 by DPInitPending, muted as well",
+            "7 stays by OutputDisableTx", "7 stays by OutputSquelchForceTx", "7 stays by both",
+            "5 to 6 by DPDeinit", "5 to 6 by OutputDisableTx", "5 to 6 by OutputSquelchForceTx",
+            "5 to 6 by both", "5 to 4",
+            "4 to 6 by DPDeinit", "4 to 6 by DPInitPending", "4 to 6 by OutputDisableTx",
+            "4 to 6 by OutputSquelchForceTx", "4 to 6 by both", "4 stays", "6 to 7", "3 to 1",
+            "1 to 2 though muted", "2 to 7 though muted", "6 to 7 though muted",
+            "7 to 5 with a lane outside muted", "5 to 4 with a lane outside muted",
+            "4 stays with a lane outside muted", "7 stays and raises nothing",
             "path of 1 lane", "path of several lanes", "path of 8 lanes",
         ],
     ),
@@ -779,27 +786,64 @@ impl Coverage {
         let path = before.path(lane);
         let deinit = before.image[DP_DEINIT] & path != 0;
         let pending = before.image[DP_INIT_PENDING] & path != 0;
-        let name = match (before.dp_state(lane), after.dp_state(lane)) {
+        let disabled = before.image[OUTPUT_DISABLE_TX] & path != 0;
+        let squelched = before.image[OUTPUT_SQUELCH_FORCE_TX] & path != 0;
+        let muted = disabled || squelched;
+        let muted_outside =
+            (before.image[OUTPUT_DISABLE_TX] | before.image[OUTPUT_SQUELCH_FORCE_TX]) & !path != 0;
+        let pair = (before.dp_state(lane), after.dp_state(lane));
+        let name = match pair {
             (1, 2) => "1 to 2",
             (1, 1) => "1 stays by DPDeinit",
             (2, 3) => "2 to 3 by DPDeinit",
             (2, 7) if pending => "2 to 7, pending cleared",
             (2, 7) => "2 to 7",
             (7, 3) if deinit => "7 to 3 by DPDeinit",
-            (7, 3) => "7 to 3 by DPInitPending",
-            (7, 5) => "7 to 5",
+            (7, 3) if pending => "7 to 3 by DPInitPending",
+            (7, 7) if disabled && squelched => "7 stays by both",
+            (7, 7) if disabled => "7 stays by OutputDisableTx",
+            (7, 7) if squelched => "7 stays by OutputSquelchForceTx",
+            (7, 5) if !muted => "7 to 5",
             (5, 6) if deinit => "5 to 6 by DPDeinit",
-            (5, 4) => "5 to 4",
+            (5, 6) if disabled && squelched => "5 to 6 by both",
+            (5, 6) if disabled => "5 to 6 by OutputDisableTx",
+            (5, 6) if squelched => "5 to 6 by OutputSquelchForceTx",
+            (5, 4) if !muted => "5 to 4",
             (4, 6) if deinit => "4 to 6 by DPDeinit",
-            (4, 6) => "4 to 6 by DPInitPending",
-            (4, 4) => "4 stays",
+            (4, 6) if pending => "4 to 6 by DPInitPending",
+            (4, 6) if disabled && squelched => "4 to 6 by both",
+            (4, 6) if disabled => "4 to 6 by OutputDisableTx",
+            (4, 6) if squelched => "4 to 6 by OutputSquelchForceTx",
+            (4, 4) if !muted => "4 stays",
             (6, 7) => "6 to 7",
             (3, 1) => "3 to 1",
-            pair => panic!("the path table has no {:?}", pair),
+            _ => panic!(
+                "the path table has no {:?} with DPDeinit {}, pending {}, disabled {}, squelched {}",
+                pair, deinit, pending, disabled, squelched
+            ),
         };
         self.hit("path table", name);
         if before.active(lane) >> 4 > 8 {
             self.hit("AppSels 9 to 15", "hardware event on its path");
+        }
+        match pair {
+            (1, 2) if muted => self.hit("path table", "1 to 2 though muted"),
+            (2, 7) if muted => self.hit("path table", "2 to 7 though muted"),
+            (6, 7) if muted => self.hit("path table", "6 to 7 though muted"),
+            (7, 3) if deinit && muted => self.hit("path table", "7 to 3 by DPDeinit, muted as well"),
+            (7, 3) if muted => self.hit("path table", "7 to 3 by DPInitPending, muted as well"),
+            (7, 7) => {
+                let (flags, flags_after) =
+                    (before.image[DP_STATE_CHANGED], after.image[DP_STATE_CHANGED]);
+                assert_eq!(flags, flags_after, "a path that stays raised 134");
+                if flags & path == 0 {
+                    self.hit("path table", "7 stays and raises nothing");
+                }
+            }
+            (7, 5) if muted_outside => self.hit("path table", "7 to 5 with a lane outside muted"),
+            (5, 4) if muted_outside => self.hit("path table", "5 to 4 with a lane outside muted"),
+            (4, 4) if muted_outside => self.hit("path table", "4 stays with a lane outside muted"),
+            _ => {}
         }
         self.hit("path table", match path.count_ones() {
             1 => "path of 1 lane",
@@ -1001,9 +1045,9 @@ impl Maker {
         // A host that is always at it, with wrong records mixed in; or, for
         // measuring, all six kinds of event about equally often.
         let weights = if self.wild {
-            [26, 24, if self.errand.is_empty() { 14 } else { 2 }, 4, 4, 22, 8, 8, 3, 3, 3, 2, 3]
+            [26, 24, if self.errand.is_empty() { 14 } else { 2 }, 4, 4, 22, 8, 8, 3, 3, 3, 2, 3, 3]
         } else {
-            [19, 19, if self.errand.is_empty() { 6 } else { 0 }, 1, 1, 18, 19, 19, 1, 1, 1, 1, 0]
+            [19, 19, if self.errand.is_empty() { 6 } else { 0 }, 1, 1, 18, 19, 19, 1, 1, 1, 1, 0, 0]
         };
         let mut left = self.rng.below(weights.iter().sum());
         let mut choice = 0;
@@ -1024,7 +1068,8 @@ impl Maker {
             9 => self.masks(),
             10 => self.stage_something(),
             11 => self.trigger_again(),
-            _ => self.anything(),
+            12 => self.anything(),
+            _ => self.mute(),
         }
     }
 
@@ -1268,6 +1313,29 @@ impl Maker {
             _ => 0,
         };
         let errand = vec![self.page(0x10), write_event(128, &[mask])];
+        self.begin(errand)
+    }
+
+    /// Outputs disabled or squelched, most often of one lane of a path, which
+    /// then gets hardware events; and all of them on again.
+    fn mute(&mut self) -> Event {
+        let used = self.state.used();
+        let lane = if used != 0 { self.rng.lane_of(used) } else { self.rng.byte() & 7 };
+        let path = self.state.path(lane) | 1 << lane;
+        let lanes = match self.rng.below(10) {
+            0 => self.rng.byte(),
+            1 => 0xFF,
+            2 | 3 => !path & self.rng.byte(),
+            _ => 1 << self.rng.lane_of(path),
+        };
+        let bytes = match self.rng.below(5) {
+            0 | 1 => [lanes, self.rng.byte(), 0],
+            2 | 3 => [0, self.rng.byte(), lanes],
+            _ => [lanes, 0, lanes],
+        };
+        let mut errand = vec![self.page(0x10), write_event(130, &bytes)];
+        errand.extend((0..self.rng.below(4)).map(|_| Event::Hardware { lane }));
+        errand.extend([self.page(0x10), write_event(130, &[0, 0, 0])]);
         self.begin(errand)
     }
 

@@ -259,6 +259,61 @@ fn a_path_from_rest_to_active_and_back() {
     assert_eq!(bench.image[ACTIVE_DP_CONFIG..ACTIVE_DP_CONFIG + 29], [0u8; 29]);
 }
 
+/// Hardware events on lane 0, and the state its path has after each.
+fn states_after(bench: &mut Bench, events: usize) -> Vec<u8> {
+    (0..events)
+        .map(|_| {
+            assert_eq!(bench.hardware(0), 0);
+            let states = bench.image[DP_STATE];
+            assert_eq!([states; 2], bench.image[DP_STATE..DP_STATE + 2], "a path in two states");
+            states & 15
+        })
+        .collect()
+}
+
+#[test]
+fn light_goes_off_when_told() {
+    for address in [130, 132] {
+        let mut bench = Bench::new();
+        bench.apply(0, &[0x10; 4], 143, 0x0F);
+        assert_eq!(states_after(&mut bench, 4), [2, 7, 5, 4]);
+        // One lane takes the whole path back, and keeps it in DPInitialized.
+        bench.write(address, &[0x04]);
+        assert_eq!(states_after(&mut bench, 2), [6, 7]);
+        bench.image[DP_STATE_CHANGED] = 0;
+        assert_eq!(states_after(&mut bench, 2), [7, 7]);
+        assert_eq!(bench.image[DP_STATE_CHANGED], 0, "staying enters nothing");
+        bench.write(address, &[0x00]);
+        assert_eq!(states_after(&mut bench, 2), [5, 4]);
+        assert_eq!(bench.image[DP_STATE_CHANGED], 0x0F);
+        // So does a lane told in DPTxTurnOn.
+        bench.write(address, &[0x08]);
+        assert_eq!(states_after(&mut bench, 2), [6, 7]);
+        bench.write(address, &[0x00]);
+        assert_eq!(states_after(&mut bench, 1), [5]);
+        bench.write(address, &[0x01]);
+        assert_eq!(states_after(&mut bench, 3), [6, 7, 7]);
+    }
+}
+
+#[test]
+fn light_off_has_no_say_elsewhere() {
+    // Not outside the path, and not by the registers beside them.
+    let mut bench = Bench::new();
+    bench.apply(0, &[0x10; 4], 143, 0x0F);
+    bench.write(129, &[0xFF, 0xF0, 0xFF, 0xF0]);
+    assert_eq!(states_after(&mut bench, 5), [2, 7, 5, 4, 4]);
+    // Not on the way to DPInitialized; something pending goes before it there.
+    let mut bench = Bench::new();
+    bench.apply(0, &[0x10; 4], 143, 0x0F);
+    bench.write(130, &[0x0F, 0, 0x0F]);
+    assert_eq!(states_after(&mut bench, 3), [2, 7, 7]);
+    assert_eq!(bench.apply(0, &[0x10; 4], 143, 0x0F), 1);
+    assert_eq!(states_after(&mut bench, 4), [3, 1, 2, 7]);
+    bench.write(128, &[0x02]);
+    assert_eq!(states_after(&mut bench, 3), [3, 1, 1]);
+}
+
 #[test]
 fn commission_mask_only_when_immediate_closes_on_a_live_path() {
     let mut bench = Bench::new();

@@ -853,6 +853,8 @@ impl<'a> Module<'a> {
         use dp_state::*;
         let deinit = self.image[DP_DEINIT] & path != 0;
         let again = deinit || self.image[DP_INIT_PENDING] & path != 0;
+        let muted = self.image[OUTPUT_DISABLE_TX] | self.image[OUTPUT_SQUELCH_FORCE_TX];
+        let deactivate = again || muted & path != 0;
         let state = self.dp_state(lane);
         let next = match state {
             DEACTIVATED if !deinit => INIT,
@@ -862,10 +864,10 @@ impl<'a> Module<'a> {
                 INITIALIZED
             }
             INITIALIZED if again => DEINIT,
-            INITIALIZED => TX_TURN_ON,
-            TX_TURN_ON if again => TX_TURN_OFF,
+            INITIALIZED if !deactivate => TX_TURN_ON,
+            TX_TURN_ON if deactivate => TX_TURN_OFF,
             TX_TURN_ON => ACTIVATED,
-            ACTIVATED if again => TX_TURN_OFF,
+            ACTIVATED if deactivate => TX_TURN_OFF,
             TX_TURN_OFF => INITIALIZED,
             DEINIT => DEACTIVATED,
             _ => state,

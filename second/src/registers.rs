@@ -65,6 +65,10 @@ pub const RX_POWER_LOW_WARNING: usize = P02 + 198;
 // ---- page 10h: controls and the staged control set ----
 
 pub const DP_DEINIT: usize = P10 + 128;
+/// A bit a lane: its output must not shine.
+pub const OUTPUT_DISABLE_TX: usize = P10 + 130;
+/// A bit a lane: its output is held at squelch.
+pub const OUTPUT_SQUELCH_FORCE_TX: usize = P10 + 132;
 pub const APPLY_DP_INIT: usize = P10 + 143;
 pub const APPLY_IMMEDIATE: usize = P10 + 144;
 /// Eight bytes, one a lane: AppSel 7-4, DataPathID 3-1, ExplicitControl 0.

@@ -65,9 +65,9 @@ unfolding nextState
 next-low Reserved by h = h
 next-low Deactivated by h = pick-low (by .deinit) Deactivated Init (omega arith) (omega arith)
 next-low Init by h = pick-low (by .deinit) Deinit Initialized (omega arith) (omega arith)
-next-low Initialized by h = pick-low (by .reinit) Deinit TxTurnOn (omega arith) (omega arith)
-next-low TxTurnOn by h = pick-low (by .reinit) TxTurnOff Activated (omega arith) (omega arith)
-next-low Activated by h = pick-low (by .reinit) TxTurnOff Activated (omega arith) (omega arith)
+next-low Initialized by h = pick-low (by .reinit) Deinit _ (omega arith) (pick-low (by .deactivate) Initialized TxTurnOn (omega arith) (omega arith))
+next-low TxTurnOn by h = pick-low (by .deactivate) TxTurnOff Activated (omega arith) (omega arith)
+next-low Activated by h = pick-low (by .deactivate) TxTurnOff Activated (omega arith) (omega arith)
 next-low TxTurnOff by h = omega arith
 next-low Deinit by h = omega arith
 

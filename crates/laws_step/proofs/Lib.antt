@@ -14,6 +14,7 @@ pub mod Middle
 pub mod Writing
 pub mod Paging
 pub mod Moving
+pub mod Muting
 pub mod Sensing
 pub mod Reserving
 pub mod Running

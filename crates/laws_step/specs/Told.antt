@@ -9,7 +9,7 @@ use lib.ListN.{length, getD}
 use Rattle.bits.specs.Choice.{pick, both, either}
 use Rattle.bits.specs.Place.{get, digit}
 use Rattle.bits.specs.Sets.{has, nextIn}
-use Rattle.model.specs.Map.{Image, page11, on, laneCount, activeSet, statusAt, stateAt, bankSelect, pageSelect, writable, clearing, flagBytes, flagMasks, flagByteCount, pendingAt, flagAt, stateChanged, receivedPower, highAlarm, lowAlarm, highWarning, lowWarning, highAlarmFlag, lowAlarmFlag, highWarningFlag, lowWarningFlag}
+use Rattle.model.specs.Map.{Image, page11, on, laneCount, activeSet, outputDisableAt, squelchForceAt, statusAt, stateAt, bankSelect, pageSelect, writable, clearing, flagBytes, flagMasks, flagByteCount, pendingAt, flagAt, stateChanged, receivedPower, highAlarm, lowAlarm, highWarning, lowWarning, highAlarmFlag, lowAlarmFlag, highWarningFlag, lowWarningFlag}
 use Rattle.model.specs.PathStates.{codeOf, resting}
 use Rattle.model.specs.Lanes.{stageAt, isInProgress, heldIn, withVerdict}
 use Rattle.model.specs.View.{viewOf, settingsAt}
@@ -29,7 +29,7 @@ use Rattle.model.specs.declared.lane.Progress.{Progress}
 use Rattle.model.specs.declared.lane.Stage.the-variants.{Idle, InProgress}
 use Rattle.model.specs.declared.lane.Working.{Working}
 use Rattle.model.specs.declared.path.PathState.{PathState}
-use Rattle.model.specs.declared.path.PathState.the-variants.{Activated, Initialized}
+use Rattle.model.specs.declared.path.PathState.the-variants.{Activated, TxTurnOn, Initialized}
 use Rattle.laws_step.specs.Changes.{Bits, orIn, inBytes, statusSet, stateSet, flagSet, pendingSet}
 
 -- one event on a state; room is the length of the buffer that a read is lent, bytes are those that a write carries
@@ -137,6 +137,17 @@ pub record PathMoved (g : ℕ) (from to : PathState) (before after : Image) : Ty
       → get after (flagAt stateChanged m) ≡ pick (both (not (isState from to)) (resting to)) 1 (get before (flagAt stateChanged m))
   pub pendings : (m : ℕ) → m < laneCount → has g m ≡ true
       → get after (pendingAt m) ≡ pick (both (not (isState from to)) (initialized from to)) 0 (get before (pendingAt m))
+
+-- a lane of the path g whose output is to be dark: its OutputDisableTx or OutputSquelchForceTx bit is 1
+pub record MutedLane (x : Image) (g : ℕ) : Type 0 where
+  pub lane : ℕ
+  pub isLane : lane < laneCount
+  pub isOnPath : has g lane ≡ true
+  pub isMuted : (get x (outputDisableAt lane) ≡ 1) ⊎ (get x (squelchForceAt lane) ≡ 1)
+
+-- the states in which a path's light is on or comes on
+unfoldable pub shines : PathState → Bool
+shines state = either (isState state TxTurnOn) (isState state Activated)
 
 -- what a sample of lane l may change: its two bytes of received power and its four flags
 unfoldable pub sampleSet : ℕ → Bits

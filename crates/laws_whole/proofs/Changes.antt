@@ -16,7 +16,7 @@ use Rattle.model.specs.Groups.{someIn}
 use Rattle.model.specs.Triggers.{withStatus, isIgnored}
 use Rattle.model.specs.PathStates.{codeOf}
 use Rattle.model.specs.Work.{withPending, pendingAfter}
-use Rattle.model.specs.Hardware.{someBit, toDeinit, toReinit, signalsOf, nextState, withState, withFlags, entered, moved, movedPath}
+use Rattle.model.specs.Hardware.{someBit, toDeinit, toReinit, toDeactivate, signalsOf, nextState, withState, withFlags, entered, moved, movedPath}
 use Rattle.model.specs.Flags.{raised, sampled, isUnmasked, interrupts, settled, conditionSet, power}
 use Rattle.model.specs.Pages.{withPage, pagePlace, selectedStart, placeOf, pageSelected}
 use Rattle.model.specs.Access.{cleared}
@@ -138,9 +138,13 @@ module _ (c : ℕ → Bool) (x y : Image) (A : Alike (activeBitOf c) x y) where
   unfolding toReinit
   reinit-same g = rw (deinit-same g, some-same pendingAt g (λ m b. pending-same x y m b (λ i a h. sym (alike-above c x y A i (omega arith)))))
 
+  deactivate-same : (g : ℕ) → toDeactivate y g ≡ toDeactivate x g
+  unfolding toDeactivate
+  deactivate-same g = rw (reinit-same g, control-same 514 g (omega arith), control-same 516 g (omega arith))
+
   signals-same : (g : ℕ) → signalsOf y g ≡ signalsOf x g
   unfolding signalsOf
-  signals-same g = λ i. record { deinit = deinit-same g i; reinit = reinit-same g i }
+  signals-same g = λ i. record { deinit = deinit-same g i; reinit = reinit-same g i; deactivate = deactivate-same g i }
 
   pub alike-moved : (g : ℕ) (from : PathState) → Alike (activeBitOf c) (movedPath x g from) (movedPath y g from)
   unfolding movedPath moved

@@ -26,8 +26,12 @@ pub const PAGE_11: usize = 640;
 // Lower 3: the module's state, with InterruptDeasserted in bit 0.
 pub const MODULE_STATE: usize = 3;
 
-// Page 10h: DPDeinit, a bit a lane; the triggers ApplyDPInit and ApplyImmediate; Staged Control Set 0.
+// Page 10h: DPDeinit, OutputDisableTx and OutputSquelchForceTx, a bit a lane; the triggers ApplyDPInit and ApplyImmediate; Staged Control Set 0.
 pub const DEINIT: usize = PAGE_10 + (128 - 128);
+
+pub const OUTPUT_DISABLE: usize = PAGE_10 + (130 - 128);
+
+pub const SQUELCH_FORCE: usize = PAGE_10 + (132 - 128);
 
 pub const APPLY_DP_INIT: usize = PAGE_10 + (143 - 128);
 

@@ -8,7 +8,7 @@ use Rattle.bits.specs.Loop.{each}
 use Rattle.bits.specs.Place.{get, put}
 use Rattle.bits.specs.Sets.{has}
 use Rattle.bits.specs.declared.Place.{Place}
-use Rattle.model.specs.Map.{Image, laneCount, activeSet, stateAt, pendingAt, deinitAt, flagAt, stateChanged}
+use Rattle.model.specs.Map.{Image, laneCount, activeSet, stateAt, pendingAt, deinitAt, outputDisableAt, squelchForceAt, flagAt, stateChanged}
 use Rattle.model.specs.PathStates.{stateOf, codeOf, resting}
 use Rattle.model.specs.View.{settingsOf, pathOf}
 use Rattle.model.specs.Groups.{someIn}
@@ -29,18 +29,22 @@ toDeinit x g = someBit x deinitAt g
 unfoldable pub toReinit : Image → ℕ → Bool
 toReinit x g = either (toDeinit x g) (someBit x pendingAt g)
 
+-- D: R, or an OutputDisableTx or OutputSquelchForceTx bit of the path's lanes is 1 (Req 06; 002 equation 6-12)
+unfoldable pub toDeactivate : Image → ℕ → Bool
+toDeactivate x g = either (toReinit x g) (either (someBit x outputDisableAt g) (someBit x squelchForceAt g))
+
 -- the signals of a path
 unfoldable pub signalsOf : Image → ℕ → Signals
-signalsOf x g = record { deinit = toDeinit x g; reinit = toReinit x g }
+signalsOf x g = record { deinit = toDeinit x g; reinit = toReinit x g; deactivate = toDeactivate x g }
 
--- the path table: the state that follows, by the path's signals
+-- the path table: the state that follows, by the path's signals (01, amended by Req 06 where it asks for D)
 unfoldable pub nextState : PathState → Signals → PathState
 nextState Reserved by = Reserved
 nextState Deactivated by = pick (by .deinit) Deactivated Init
 nextState Init by = pick (by .deinit) Deinit Initialized
-nextState Initialized by = pick (by .reinit) Deinit TxTurnOn
-nextState TxTurnOn by = pick (by .reinit) TxTurnOff Activated
-nextState Activated by = pick (by .reinit) TxTurnOff Activated
+nextState Initialized by = pick (by .reinit) Deinit (pick (by .deactivate) Initialized TxTurnOn)
+nextState TxTurnOn by = pick (by .deactivate) TxTurnOff Activated
+nextState Activated by = pick (by .deactivate) TxTurnOff Activated
 nextState TxTurnOff by = Initialized
 nextState Deinit by = Deactivated
 

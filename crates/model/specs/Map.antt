@@ -107,6 +107,13 @@ lowWarning = on page02 198
 abbrev pub deinitAt : ℕ → Place
 deinitAt l = laneField (on page10 128) 1 l
 
+-- 130 OutputDisableTx, 132 OutputSquelchForceTx: a bit a lane that mutes its output (002 table 8-69)
+abbrev pub outputDisableAt : ℕ → Place
+outputDisableAt l = laneField (on page10 130) 1 l
+
+abbrev pub squelchForceAt : ℕ → Place
+squelchForceAt l = laneField (on page10 132) 1 l
+
 -- 143, 144: the triggers of Staged Control Set 0 (002 table 8-70)
 abbrev pub applyDPInit : ℕ
 applyDPInit = on page10 143

@@ -14,10 +14,12 @@ pub enum PathState {
     Initialized,
 }
 
-// What decides where a path goes: S, it is to be taken down; R, it is to be taken down or brought up anew.
+// What decides where a path goes: S, it is to be taken down; R, it is to be taken down or brought up anew; D, its light is to go off, by R or because an
+// output is muted.
 pub struct Signals {
     pub deinit: bool,
     pub reinit: bool,
+    pub deactivate: bool,
 }
 
 impl PathState {

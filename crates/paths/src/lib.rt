@@ -10,7 +10,7 @@ ghost use Rattle.model.specs.PathStates.{resting};
 ghost use Rattle.model.specs.View.{appSel, pathId, of, isUsed, settingsOf, samePath, pathOf};
 ghost use Rattle.model.specs.Groups.{someIn};
 ghost use Rattle.model.specs.Work.{withPending};
-ghost use Rattle.model.specs.Hardware.{someBit, toDeinit, toReinit, signalsOf, nextState, initialized, withFlags, entered, moved, hardwareMoved};
+ghost use Rattle.model.specs.Hardware.{someBit, toDeinit, toReinit, toDeactivate, signalsOf, nextState, initialized, withFlags, entered, moved, hardwareMoved};
 use map::ACTIVE_SET;
 use model::path::PathState;
 use model::path::Signals;
@@ -92,6 +92,16 @@ pub fn to_reinit(image: &[u8], path: u8) -> bool
     to_deinit(image, path) | some_bit(image, map::PENDING, path)
 }
 
+// D: R, or an OutputDisableTx or OutputSquelchForceTx bit of the path is 1.
+pub fn to_deactivate(image: &[u8], path: u8) -> bool
+    requires { ⌜ length (now image) ≡ 768 ⌝ }
+    ensures { λ r. ⌜ r ≡ toDeactivate (now (image .entry)) path ⌝ }
+{
+    let disabled = some_bit(image, map::OUTPUT_DISABLE, path);
+    let squelched = some_bit(image, map::SQUELCH_FORCE, path);
+    to_reinit(image, path) | (disabled | squelched)
+}
+
 // The signals of a path.
 pub fn signals_of(image: &[u8], path: u8) -> Signals
     requires { ⌜ length (now image) ≡ 768 ⌝ }
@@ -99,7 +109,12 @@ pub fn signals_of(image: &[u8], path: u8) -> Signals
 {
     let deinit = to_deinit(image, path);
     let reinit = to_reinit(image, path);
-    Signals { deinit, reinit }
+    let deactivate = to_deactivate(image, path);
+    Signals {
+        deinit,
+        reinit,
+        deactivate,
+    }
 }
 
 // The state that follows, by the path's signals.
@@ -119,12 +134,12 @@ pub fn next_state(from: PathState, by: Signals) -> PathState
             PathState::Initialized
         },
         PathState::Deinit => PathState::Deactivated,
-        PathState::Activated => if by.reinit {
+        PathState::Activated => if by.deactivate {
             PathState::TxTurnOff
         } else {
             PathState::Activated
         },
-        PathState::TxTurnOn => if by.reinit {
+        PathState::TxTurnOn => if by.deactivate {
             PathState::TxTurnOff
         } else {
             PathState::Activated
@@ -132,6 +147,8 @@ pub fn next_state(from: PathState, by: Signals) -> PathState
         PathState::TxTurnOff => PathState::Initialized,
         PathState::Initialized => if by.reinit {
             PathState::Deinit
+        } else if by.deactivate {
+            PathState::Initialized
         } else {
             PathState::TxTurnOn
         },

@@ -17,7 +17,7 @@ use Rattle.model.specs.Groups.{joined, releasedWith, inGroup, groupOf, someIn, 
 use Rattle.model.specs.Verdicts.{otherAppSel, misplaced, incomplete, crossing, outOfLimits, unsupported, tooLate, wrongState, applyBy, applyVerdict, pathRelease, releaseVerdict, verdictOf}
 use Rattle.model.specs.Triggers.{withStatus, isMarked, markedStage, stageAfter, marked, isIgnored, triggered}
 use Rattle.model.specs.Work.{byModule, written, withActive, copyLane, copyNext, copyGroup, isRelease, withPending, pendingAfter, commissionMask, closed, closedPass, copied, workedBy, workedOn, workStep}
-use Rattle.model.specs.Hardware.{someBit, toDeinit, toReinit, signalsOf, nextState, isState, withState, withFlags, initialized, entered, moved, movedPath, hardwareMoved}
+use Rattle.model.specs.Hardware.{someBit, toDeinit, toReinit, toDeactivate, signalsOf, nextState, isState, withState, withFlags, initialized, entered, moved, movedPath, hardwareMoved}
 use Rattle.model.specs.Flags.{isConditionFlag, conditionSet, raised, sampled, isUnmasked, interrupts, settled}
 use Rattle.model.specs.Pages.{findPage, pagePlace, selectedStart, placeOf, pageSelected}
 use Rattle.model.specs.Access.{stored, byteWritten, bytesWritten, shown, taken, cleared, halfEnd, isBadAccess}
@@ -31,5 +31,5 @@ use Rattle.starred.specs.Case.{sameBytes, linesOf, holds, allHold, blank
 use Rattle.starred.specs.Starred.{starred}
 
 pub starred-hold : T (allHold starred)
-unfolding pick onlyIf both either implies field withField get put digit laneField each tab anyBelow allBelow seek has maskOf nextIn word putWord settingAt inRanges writable clearing kept stateOf resting commissioned isDone isInProgress isPass isPassing heldIn anyInProgress withStage withStages freed withVerdict advanced descriptorAt listReaches hostLaneCount isPresent lookup appSel pathId explicit settingsAt settingValues limitsOf settingsOf statesOf applicationsOf viewOf isUsed samePath pathOf within joined releasedWith inGroup groupOf someIn everyIn otherAppSel misplaced incomplete crossing outOfLimits unsupported tooLate wrongState applyBy applyVerdict pathRelease releaseVerdict verdictOf withStatus isMarked markedStage stageAfter marked isIgnored triggered byModule written withActive copyLane copyNext copyGroup isRelease withPending pendingAfter commissionMask closed closedPass copied workedBy workedOn workStep someBit toDeinit toReinit signalsOf nextState isState withState withFlags initialized entered moved movedPath hardwareMoved isConditionFlag conditionSet raised sampled isUnmasked interrupts settled findPage pagePlace selectedStart placeOf pageSelected stored byteWritten bytesWritten shown taken cleared halfEnd isBadAccess isStateByte startValue startByte started firstOf isFlat noSuchLane isBusy isUnused eventRefusals readAt carried done refused answered step run recordCount isHeader isWholeLength imageIn recordByte usedBytes isRecord callAt eventAt eventsIn isWellFormed checked ascii digitText decimalUpTo decimal hexBytes line badLine linesFrom nightOf printedBy printed sameBytes linesOf holds allHold blank holding fourLanes applied
+unfolding pick onlyIf both either implies field withField get put digit laneField each tab anyBelow allBelow seek has maskOf nextIn word putWord settingAt inRanges writable clearing kept stateOf resting commissioned isDone isInProgress isPass isPassing heldIn anyInProgress withStage withStages freed withVerdict advanced descriptorAt listReaches hostLaneCount isPresent lookup appSel pathId explicit settingsAt settingValues limitsOf settingsOf statesOf applicationsOf viewOf isUsed samePath pathOf within joined releasedWith inGroup groupOf someIn everyIn otherAppSel misplaced incomplete crossing outOfLimits unsupported tooLate wrongState applyBy applyVerdict pathRelease releaseVerdict verdictOf withStatus isMarked markedStage stageAfter marked isIgnored triggered byModule written withActive copyLane copyNext copyGroup isRelease withPending pendingAfter commissionMask closed closedPass copied workedBy workedOn workStep someBit toDeinit toReinit toDeactivate signalsOf nextState isState withState withFlags initialized entered moved movedPath hardwareMoved isConditionFlag conditionSet raised sampled isUnmasked interrupts settled findPage pagePlace selectedStart placeOf pageSelected stored byteWritten bytesWritten shown taken cleared halfEnd isBadAccess isStateByte startValue startByte started firstOf isFlat noSuchLane isBusy isUnused eventRefusals readAt carried done refused answered step run recordCount isHeader isWholeLength imageIn recordByte usedBytes isRecord callAt eventAt eventsIn isWellFormed checked ascii digitText decimalUpTo decimal hexBytes line badLine linesFrom nightOf printedBy printed sameBytes linesOf holds allHold blank holding fourLanes applied
 starred-hold = tt

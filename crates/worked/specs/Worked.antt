@@ -1,6 +1,10 @@
 -- Worked cases beside the starred ones.
+use Prim.Native.Nat.{ℕ}
+use Prim.Native.String.{String}
 use mathlib.Core.List.{List, [], _∷_, _++_}
+use Rattle.bits.specs.Loop.{tab}
 use Rattle.model.specs.Map.{Image, on, page01, highAlarm}
+use Rattle.model.specs.declared.event.Event.{Event}
 use Rattle.starred.specs.Case.{Case, blank, holding, fourLanes, write, read, work, hardware, condition, sample, selectPage, applied}
 
 -- the night of 01's example
@@ -20,6 +24,26 @@ example =
 -- Applications 9 and 15 of one host lane each: 9 may begin on lane 0 and 15 on lane 7, said in its last byte, 01h:250
 abbrev pub nineAndFifteen : Image
 nineAndFifteen = holding (on page01 225) (0x11 ∷ 0x01 ∷ []) (holding (on page01 249) (0x11 ∷ 0x80 ∷ []) blank)
+
+-- Application 1 with 2 host lanes, which may begin on every even lane
+unfoldable pub twoLanes : Image
+twoLanes = holding 88 (0x22 ∷ 0x55 ∷ []) blank
+
+-- in an image of `twoLanes`: lanes 0 and 1 become a path, and n hardware events move it; page 10h is selected
+unfoldable pub walked : ℕ → List Event
+walked n = selectPage 0x10 ∷ write 145 (0x10 ∷ 0x10 ∷ []) ∷ write 143 (0x03 ∷ []) ∷ work 0 ∷ work 0 ∷ work 0 ∷ tab n (λ i. hardware 0)
+
+-- .. to DPActivated; then a byte of page 10h mutes lane 1, the path goes down and waits, the byte is cleared, and the path comes back
+unfoldable pub muted : ℕ → List Event
+muted address =
+    walked 4 ++ (write address (0x02 ∷ []) ∷ hardware 0 ∷ selectPage 0x11 ∷ read 128 1 ∷ hardware 1 ∷ read 128 7 ∷ hardware 0 ∷ read 128 7
+    ∷ selectPage 0x10 ∷ write address (0x00 ∷ []) ∷ hardware 0 ∷ hardware 0 ∷ selectPage 0x11 ∷ read 128 7 ∷ [])
+
+abbrev pub mutedSeen : List String
+mutedSeen =
+    "0 0" ∷ "1 0" ∷ "2 0" ∷ "3 0" ∷ "4 0" ∷ "5 0" ∷ "6 0" ∷ "7 0" ∷ "8 0" ∷ "9 0" ∷ "10 0" ∷ "11 0" ∷ "12 0" ∷ "13 0 66" ∷ "14 0"
+    ∷ "15 0 77 11 11 11 00 00 03" ∷ "16 0" ∷ "17 0 77 11 11 11 00 00 00" ∷ "18 0" ∷ "19 0" ∷ "20 0" ∷ "21 0" ∷ "22 0"
+    ∷ "23 0 44 11 11 11 00 00 03" ∷ []
 
 abbrev pub worked : List Case
 worked =
@@ -109,6 +133,27 @@ worked =
       image = holding (on page01 249) (0x01 ∷ []) nineAndFifteen;
       events = applied 152 (0xfe ∷ []) 0x80 7;
       seen = "0 0" ∷ "1 0" ∷ "2 0" ∷ "3 0" ∷ "4 0" ∷ "5 0 00 00 00 30" ∷ [];
+    }
+    -- OutputDisableTx of one lane takes a whole path out of DPActivated and keeps it in DPInitialized, where it sets no bit in 134; enabled again it is back (Req 06)
+    ∷ record { image = twoLanes; events = muted 130; seen = mutedSeen }
+    -- .. and so does OutputSquelchForceTx
+    ∷ record { image = twoLanes; events = muted 132; seen = mutedSeen }
+    -- .. but not a lane outside the path, nor bytes 129 and 131: the path walks to DPActivated and stays
+    ∷ record {
+      image = twoLanes;
+      events = selectPage 0x10 ∷ write 129 (0xff ∷ 0xfc ∷ 0xff ∷ 0xfc ∷ []) ∷ walked 5 ++ (selectPage 0x11 ∷ read 128 1 ∷ []);
+      seen =
+          "0 0" ∷ "1 0" ∷ "2 0" ∷ "3 0" ∷ "4 0" ∷ "5 0" ∷ "6 0" ∷ "7 0" ∷ "8 0" ∷ "9 0" ∷ "10 0" ∷ "11 0" ∷ "12 0" ∷ "13 0" ∷ "14 0 44" ∷ [];
+    }
+    -- DPTxTurnOn is left as well; and in DPInitialized what is pending goes first: the muted path is brought up anew
+    ∷ record {
+      image = twoLanes;
+      events =
+          walked 3 ++ (write 132 (0x01 ∷ []) ∷ hardware 0 ∷ hardware 0 ∷ write 143 (0x03 ∷ []) ∷ work 0 ∷ work 0 ∷ work 0 ∷ hardware 0
+          ∷ selectPage 0x11 ∷ read 128 1 ∷ []);
+      seen =
+          "0 0" ∷ "1 0" ∷ "2 0" ∷ "3 0" ∷ "4 0" ∷ "5 0" ∷ "6 0" ∷ "7 0" ∷ "8 0" ∷ "9 0" ∷ "10 0" ∷ "11 0" ∷ "12 0" ∷ "13 0" ∷ "14 0" ∷ "15 0"
+          ∷ "16 0" ∷ "17 0" ∷ "18 0 33" ∷ [];
     }
     -- pages: 126 alone is stored, 10h needs bank 0, a bad page resets both
     ∷ record {

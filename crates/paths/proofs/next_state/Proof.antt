@@ -79,7 +79,11 @@ returns-12 c = rw (c .before .enum-told8 .given .1, c .if5 .taken)
 
 returns-13 : tie.Need-returns-13
 unfolding nextState pick
-returns-13 c = rw (c .before .enum-told8 .given .1, c .if5 .left)
+returns-13 c = rw (c .before .before .enum-told8 .given .1, c .before .if5 .left, c .if6 .taken)
+
+returns-14 : tie.Need-returns-14
+unfolding nextState pick
+returns-14 c = rw (c .before .before .enum-told8 .given .1, c .before .if5 .left, c .if6 .left)
 
 pub next-state-spec : {M : Type 1} → statement M
 next-state-spec =
@@ -105,4 +109,5 @@ next-state-spec =
     returns-10
     returns-11
     returns-12
-    returns-13)
+    returns-13
+    returns-14)

@@ -10,9 +10,16 @@ to-deinit-requires c κs = search needs
 to-reinit-requires : tie.Need-to-reinit-requires
 to-reinit-requires c κs = search needs
 
+to-deactivate-requires : tie.Need-to-deactivate-requires
+to-deactivate-requires c κs = search needs
+
 returns : tie.Need-returns
 unfolding signalsOf
-returns c = λ i. record { deinit = c .before .to-deinit .ensures i; reinit = c .to-reinit .ensures i }
+returns c = λ i. record {
+  deinit = c .before .before .to-deinit .ensures i;
+  reinit = c .before .to-reinit .ensures i;
+  deactivate = c .to-deactivate .ensures i;
+}
 
 pub signals-of-spec : {M : Type 1} → statement M
-signals-of-spec = tie.close (tie.spec to-deinit-requires to-reinit-requires returns)
+signals-of-spec = tie.close (tie.spec to-deinit-requires to-reinit-requires to-deactivate-requires returns)
