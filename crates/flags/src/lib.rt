@@ -5,15 +5,6 @@ ghost use lib.ListN.{length};
 ghost use Rattle.model.specs.Flags.{isConditionFlag, conditionSet, power, raised, sampled, interrupts, settled};
 use bits::Place;
 
-// Page 02h: the limits of received power, two bytes each, in 0.1 µW.
-const HIGH_ALARM: usize = map::PAGE_02 + (192 - 128);
-
-const LOW_ALARM: usize = map::PAGE_02 + (194 - 128);
-
-const HIGH_WARNING: usize = map::PAGE_02 + (196 - 128);
-
-const LOW_WARNING: usize = map::PAGE_02 + (198 - 128);
-
 // Page 11h: the flags that a sample may raise, and where samples are stored.
 const HIGH_ALARM_FLAG: u8 = 149;
 
@@ -71,10 +62,10 @@ pub fn sample(image: &mut [u8], lane: u8, power: u16)
     requires { ⌜ (length (now image) ≡ 768) × (lane < 8) ⌝ }
     ensures { λ _. ⌜ now (image .exit) ≡ sampled lane power (now (image .entry)) ⌝ }
 {
-    let high_alarm = limit(image, HIGH_ALARM);
-    let low_alarm = limit(image, LOW_ALARM);
-    let high_warning = limit(image, HIGH_WARNING);
-    let low_warning = limit(image, LOW_WARNING);
+    let high_alarm = limit(image, map::HIGH_ALARM);
+    let low_alarm = limit(image, map::LOW_ALARM);
+    let high_warning = limit(image, map::HIGH_WARNING);
+    let low_warning = limit(image, map::LOW_WARNING);
     words::put_word2(image, RECEIVED_POWER + 2 * (lane as usize), power);
     raise(image, high_alarm < power, HIGH_ALARM_FLAG, lane);
     raise(image, power < low_alarm, LOW_ALARM_FLAG, lane);

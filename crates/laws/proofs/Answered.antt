@@ -17,7 +17,7 @@ use Rattle.model.specs.Triggers.{State}
 use Rattle.model.specs.Step.{step, answered, done, refused}
 use Rattle.model.specs.Work.{early}
 use Rattle.model.specs.Sound.{isSound}
-use Rattle.model.specs.Refusals.{Refusal, refuse, firstOf, wrongLength, isFlat, startRefusals, entryRefusals, eventRefusals, listRefusals}
+use Rattle.model.specs.Refusals.{Refusal, refuse, firstOf, wrongLength, isFlat, imageRefusals, startRefusals, entryRefusals, eventRefusals, listRefusals}
 use Rattle.model.specs.Outcome.{startBy, startOutcome, stepOutcome, callBy, callOutcome, listBy, listOutcome, unchanged}
 use Rattle.model.specs.declared.answer.Answer.{Answer}
 use Rattle.model.specs.declared.answer.Answer.the-variants.{Done}
@@ -76,7 +76,7 @@ module _ (h : Answer → Bool) where
 -- ---- the lists of the model are the table, in its order
 asked-call : (s : State) (buffer bytes : List ℕ) (c : Call)
     → firstOf (entryRefusals s ++ eventRefusals (length buffer) s c) ≡ first (holds (call s buffer (record { call = c; bytes = bytes }))) order
-unfolding first firstOf pick startRefusals entryRefusals eventRefusals givenState holds isUnsound badAccess badPlace shortRead busyCall idleCall ofEvent shortBuffer
+unfolding first firstOf pick imageRefusals entryRefusals eventRefusals givenState holds isUnsound badAccess badPlace shortRead busyCall idleCall ofEvent shortBuffer
 asked-call s buffer bytes (Write address count) = refl
 asked-call s buffer bytes (Read address count) = refl
 asked-call s buffer bytes (Work l) = refl
@@ -92,7 +92,7 @@ step-answer room s e = split (isDone (firstOf (eventRefusals room s (e .call))))
 -- refusals 1, 2 and 3 come before those of the event
 entry-first : (s : State) (rs : List Refusal)
     → firstOf (entryRefusals s ++ rs) ≡ pick (isDone (firstOf (entryRefusals s))) (firstOf rs) (firstOf (entryRefusals s))
-unfolding firstOf pick startRefusals entryRefusals isDone
+unfolding firstOf pick imageRefusals entryRefusals isDone
 entry-first s rs = split (wrongLength (s .image)) (λ d. rw (d, pick, isDone))
     (λ d. split (isFlat (s .image)) (λ f. rw (d, f, pick, isDone))
     (λ f. split (isSound s) (λ i. rw (d, f, i, pick, isDone)) (λ i. rw (d, f, i, pick, isDone))))
@@ -109,7 +109,7 @@ list-answer s answers es = split (isDone (firstOf (listRefusals (length answers)
 
 -- the answer is the first in the order whose condition holds
 first-asked : (q : Asked) → outcomeOf q .answer ≡ first (holds q) order
-unfolding outcomeOf startOutcome startBy first firstOf pick startRefusals entryRefusals listRefusals givenState holds isUnsound ofEvent shortBuffer
+unfolding outcomeOf startOutcome startBy first firstOf pick imageRefusals startRefusals entryRefusals listRefusals givenState holds isUnsound ofEvent shortBuffer
 first-asked (start x) = refl
 first-asked (call s buffer e) = call-answer s buffer e ∙ asked-call s buffer (e .bytes) (e .call)
 first-asked (list s answers es) = list-answer s answers es
@@ -117,30 +117,30 @@ first-asked (list s answers es) = list-answer s answers es
 -- ---- the law
 
 -- no answer stands twice in the order, and Done does not stand in it
-order-once : allBelow 8 (λ j. allBelow 8 (λ k. implies (eqb (number (getD order j Done)) (number (getD order k Done))) (eqb j k))) ≡ true
+order-once : allBelow (length order) (λ j. allBelow (length order) (λ k. implies (eqb (number (getD order j Done)) (number (getD order k Done))) (eqb j k))) ≡ true
 unfolding allBelow implies both
 order-once = refl
 
-order-not-done : allBelow 8 (λ k. not (eqb (number (getD order k Done)) 0)) ≡ true
+order-not-done : allBelow (length order) (λ k. not (eqb (number (getD order k Done)) 0)) ≡ true
 unfolding allBelow both
 order-not-done = refl
 
-same-turn : (j k : ℕ) → j < 8 → k < 8 → getD order j Done ≡ getD order k Done → j ≡ k
-same-turn j k hj hk e = eqb-true j k (implies-use _ _ (all-at 8 _ (all-at 8 _ order-once j hj) k hk) (eq-eqb _ _ (ap number e)))
+same-turn : (j k : ℕ) → j < length order → k < length order → getD order j Done ≡ getD order k Done → j ≡ k
+same-turn j k hj hk e = eqb-true j k (implies-use _ _ (all-at (length order) _ (all-at (length order) _ order-once j hj) k hk) (eq-eqb _ _ (ap number e)))
 
-not-done : (k : ℕ) → k < 8 → getD order k Done ≡ Done → ⊥
-not-done k h e = clash (all-at 8 _ order-not-done k h) (rw e)
+not-done : (k : ℕ) → k < length order → getD order k Done ≡ Done → ⊥
+not-done k h e = clash (all-at (length order) _ order-not-done k h) (rw e)
 
 module _ (q : Asked) where
   -- every input is answered: with 0, or with one of the order
-  pub always-answered : (outcomeOf q .answer ≡ Done) ⊎ ((k : ℕ) × (k < 8) × (outcomeOf q .answer ≡ getD order k Done))
+  pub always-answered : (outcomeOf q .answer ≡ Done) ⊎ ((k : ℕ) × (k < length order) × (outcomeOf q .answer ≡ getD order k Done))
   always-answered = elim (find (holds q) order) [
     | inl f ↦ inr (f .0, f .1 .inList, first-asked q ∙ first-at (holds q) order (f .0) (f .1))
     | inr n ↦ inl (first-asked q ∙ first-none (holds q) order n)
   ]
 
   -- a number is answered exactly when its condition holds and no earlier one in the order does
-  pub refused-exactly : (k : ℕ) → k < 8 → (outcomeOf q .answer ≡ getD order k Done) ↔ FirstAt (holds q) order k
+  pub refused-exactly : (k : ℕ) → k < length order → (outcomeOf q .answer ≡ getD order k Done) ↔ FirstAt (holds q) order k
   refused-exactly k b = (
     λ e. elim (find (holds q) order) [
       | inl f ↦ let r : getD order (f .0) Done ≡ getD order k Done = sym (first-at (holds q) order (f .0) (f .1)) ∙ sym (first-asked q) ∙ e in

@@ -22,7 +22,7 @@ use Rattle.model.specs.declared.answer.Answer.{Answer}
 use Rattle.model.specs.declared.answer.Answer.the-variants.{Done, WrongLength, FlatMemory, Unsound, BadAccess, ShortBuffer, NothingToDo, Busy, NoSuchPlace, Malformed}
 use Rattle.model.specs.declared.event.Call.the-variants.{Read}
 use Rattle.model.specs.declared.event.Event.{Event}
-use Rattle.laws.specs.Asked.{Asked, start, call, list, outcomeOf, givenState, givenBuffer, holds, shortBuffer, shortRead}
+use Rattle.laws.specs.Asked.{Asked, start, call, list, outcomeOf, givenState, givenBuffer, holds, bufferTurn, shortBuffer, shortRead}
 use Rattle.laws.specs.Left.{Unchanged, Fronted}
 use Rattle.laws.proofs.Answered.{done-exactly}
 
@@ -95,7 +95,7 @@ read-fits : (s : State) (buffer bytes : List ℕ) (address count : ℕ)
     → callOutcome s buffer (record { call = Read address count; bytes = bytes }) .answer ≡ Done → count ≤ length buffer
 unfolding outcomeOf holds shortBuffer shortRead
 read-fits s buffer bytes address count d =
-    ltb-false (length buffer) count (done-exactly (call s buffer (record { call = Read address count; bytes = bytes })) .0 d 5 (omega arith))
+    ltb-false (length buffer) count (done-exactly (call s buffer (record { call = Read address count; bytes = bytes })) .0 d bufferTurn (omega arith))
 
 -- a read that is done lays the bytes read over the front of its buffer, and leaves the bytes beyond its count alone
 pub read-fronts : (s : State) (buffer bytes : List ℕ) (address count : ℕ)
@@ -114,7 +114,7 @@ run-length room s (e ∷ es) = ap suc (run-length room (step early room s e .sta
 
 list-fits : (s : State) (answers : List ℕ) (es : List Event) → listOutcome s answers es .answer ≡ Done → length es ≤ length answers
 unfolding outcomeOf holds shortBuffer
-list-fits s answers es d = ltb-false (length answers) (length es) (done-exactly (list s answers es) .0 d 5 (omega arith))
+list-fits s answers es d = ltb-false (length answers) (length es) (done-exactly (list s answers es) .0 d bufferTurn (omega arith))
 
 -- a list that is done lays one number for each event over the front of the answer buffer, and leaves the rest of it alone
 pub list-fronts : (s : State) (answers : List ℕ) (es : List Event) → listOutcome s answers es .answer ≡ Done

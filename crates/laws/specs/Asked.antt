@@ -125,6 +125,10 @@ holds q Malformed = false
 abbrev pub order : List Answer
 order = WrongLength ∷ FlatMemory ∷ Unsound ∷ BadAccess ∷ NoSuchPlace ∷ ShortBuffer ∷ Busy ∷ NothingToDo ∷ []
 
+-- where in it a buffer is judged
+abbrev pub bufferTurn : ℕ
+bufferTurn = 5
+
 -- of a list of answers the k-th is the first whose condition holds
 pub record FirstAt (h : Answer → Bool) (answers : List Answer) (k : ℕ) : Type 0 where
   pub inList : k < length answers

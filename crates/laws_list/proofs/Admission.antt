@@ -10,7 +10,7 @@ use Rattle.bits.specs.Choice.{pick}
 use Rattle.bits.proofs.Tests.{clash, pick-true, pick-false}
 use Rattle.model.specs.Answers.{isDone}
 use Rattle.model.specs.Triggers.{State}
-use Rattle.model.specs.Refusals.{refuse, firstOf, wrongLength, startRefusals, entryRefusals, listRefusals}
+use Rattle.model.specs.Refusals.{refuse, firstOf, wrongLength, imageRefusals, entryRefusals, listRefusals}
 use Rattle.model.specs.declared.answer.Answer.the-variants.{Done, WrongLength, FlatMemory, Unsound, ShortBuffer}
 
 three-done : (a b c d : Bool) → isDone (firstOf (refuse WrongLength a ∷ refuse FlatMemory b ∷ refuse Unsound c ∷ [])) ≡ true
@@ -41,18 +41,18 @@ four-done false false false false e = (refl, refl)
 
 module _ (room : ℕ) (s : State) (n : ℕ) where
   pub list-refused : isDone (firstOf (entryRefusals s)) ≡ false → firstOf (listRefusals room s n) ≡ firstOf (entryRefusals s)
-  unfolding listRefusals entryRefusals startRefusals
+  unfolding listRefusals entryRefusals imageRefusals
   list-refused d = three-refused _ _ _ _ d
 
   pub list-short : isDone (firstOf (entryRefusals s)) ≡ true → ltb room n ≡ true → firstOf (listRefusals room s n) ≡ ShortBuffer
-  unfolding listRefusals entryRefusals startRefusals
+  unfolding listRefusals entryRefusals imageRefusals
   list-short d h = three-done _ _ _ _ d ∙ pick-true _ _ h
 
   pub list-good : isDone (firstOf (entryRefusals s)) ≡ true → ltb room n ≡ false → firstOf (listRefusals room s n) ≡ Done
-  unfolding listRefusals entryRefusals startRefusals
+  unfolding listRefusals entryRefusals imageRefusals
   list-good d h = three-done _ _ _ _ d ∙ pick-false _ _ h
 
   -- a list that is not refused has its image's length, and room for its answers
   pub list-fits : isDone (firstOf (listRefusals room s n)) ≡ true → (length (s .image) ≡ 768) × (n ≤ room)
-  unfolding listRefusals entryRefusals startRefusals wrongLength
+  unfolding listRefusals entryRefusals imageRefusals wrongLength
   list-fits d = let f = four-done _ _ _ _ d in (eqb-true _ _ (not-false _ (f .0)), ltb-false _ _ (f .1))

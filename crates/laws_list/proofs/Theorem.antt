@@ -1,22 +1,20 @@
 -- A list of events and a night file say the same: the promise of specs/SaySame.antt, kept. Assumes nothing.
 use mathlib.Core.Path.{_≡_, refl, sym, ap, _∙_}
-use mathlib.Core.Bool.{true, false}
+use mathlib.Core.Bool.{true}
 use mathlib.Core.List.{List, [], _∷_, _++_}
-use Prim.Native.Nat.{ℕ, suc, _+_, _*_, _≤_}
-use native.Mathlib.Omega.{arith}
-use lib.ListN.{length, take, drop, length-drop}
-use lib.Seq.{take-at, drop-at, length-take-le}
-use borrow.Author.Tests.{eqb-true, le-ltb}
+use Prim.Native.Nat.{ℕ, suc, _≤_}
+use lib.ListN.{length, take, drop}
+use lib.Seq.{take-at, drop-at}
+use borrow.Author.Tests.{le-ltb}
 use Rattle.bits.specs.Choice.{pick}
-use Rattle.bits.proofs.Tests.{both-l, both-r}
 use Rattle.bits.proofs.Loops.{length-tab}
 use Rattle.model.specs.Answers.{number, isDone}
 use Rattle.model.specs.Work.{early}
 use Rattle.model.specs.Start.{started}
-use Rattle.model.specs.Refusals.{firstOf, isFlat, wrongLength, startRefusals, entryRefusals, listRefusals}
+use Rattle.model.specs.Refusals.{firstOf, startRefusals, entryRefusals, listRefusals}
 use Rattle.model.specs.Step.{Out, ending}
 use Rattle.model.specs.Outcome.{laidOver, listRoom, numbersOf, listBy, listOutcome}
-use Rattle.model.specs.File.{recordCount, isWholeLength, imageIn, eventAt, eventsIn, isWellFormed, checked}
+use Rattle.model.specs.File.{recordCount, imageIn, eventAt, eventsIn, isWellFormed, foundBy, checked}
 use Rattle.model.specs.Text.{line}
 use Rattle.model.specs.Night.{linesFrom, nightOf, printedBy, printed}
 use Rattle.model.specs.declared.answer.Answer.the-variants.{Done}
@@ -45,22 +43,10 @@ behind : (ns answers : List ℕ) (n : ℕ) → length ns ≡ n → drop n (laidO
 unfolding laidOver
 behind ns answers n e = drop-at ns _ n e ∙ ap (λ k. drop k answers) e
 
-module _ (file : List ℕ) (formed : isWellFormed file ≡ true) (paged : isFlat (imageIn file) ≡ false) where
-  file-length : length file ≡ 784 + 12 * recordCount file
-  unfolding isWellFormed isWholeLength
-  file-length = eqb-true _ _ (both-r _ _ (both-l _ _ formed))
-
-  image-length : length (imageIn file) ≡ 768
-  unfolding imageIn
-  image-length = length-take-le 768 (drop 16 file) (rw (length-drop 16 file) (omega (arith, file-length)))
-
-  starts : firstOf (startRefusals (imageIn file)) ≡ Done
-  unfolding startRefusals wrongLength firstOf pick
-  starts = rw (image-length, paged)
-
+module _ (file : List ℕ) (formed : isWellFormed file ≡ true) (taken : firstOf (startRefusals (imageIn file)) ≡ Done) where
   entered : firstOf (entryRefusals (started (imageIn file))) ≡ Done
   unfolding ending
-  entered = never-refused listRoom (imageIn file) [] starts
+  entered = never-refused listRoom (imageIn file) [] taken
 
   count-is : length (eventsIn file) ≡ recordCount file
   unfolding eventsIn
@@ -71,8 +57,8 @@ module _ (file : List ℕ) (formed : isWellFormed file ≡ true) (paged : isFlat
   numbers-length = length-numbers _ ∙ length-run early listRoom (started (imageIn file)) (eventsIn file) ∙ count-is
 
   prints : printed file ≡ linesFrom 0 (nightOf file)
-  unfolding printed checked printedBy pick
-  prints = rw (formed, paged)
+  unfolding printed checked foundBy printedBy isDone pick
+  prints = rw (formed, taken)
 
   module _ (answers : List ℕ) (roomy : recordCount file ≤ length answers) where
     admitted : firstOf (listRefusals (length answers) (started (imageIn file)) (length (eventsIn file))) ≡ Done
@@ -83,7 +69,7 @@ module _ (file : List ℕ) (formed : isWellFormed file ≡ true) (paged : isFlat
     unfolding listOutcome listBy nightOf isDone pick
     called = rw admitted
 
-    -- THE THEOREM: for every well-formed file whose image is not flat, and every answer buffer with room for its records
+    -- THE THEOREM: for every well-formed file whose image start takes, and every answer buffer with room for its records
     pub say-same : SaySame file answers
     unfolding listOutcome listBy isDone pick
     say-same = record {

@@ -17,7 +17,7 @@ use Rattle.model.specs.Triggers.{State}
 use Rattle.model.specs.Work.{early}
 use Rattle.model.specs.Start.{started}
 use Rattle.model.specs.Sound.{isSound}
-use Rattle.model.specs.Refusals.{Refusal, firstOf, isFlat, wrongLength, startRefusals, entryRefusals, listRefusals}
+use Rattle.model.specs.Refusals.{Refusal, firstOf, isFlat, wrongLength, imageRefusals, startRefusals, entryRefusals, listRefusals}
 use Rattle.model.specs.Step.{Out, step, run, ending}
 use Rattle.model.specs.Outcome.{Outcome, laidOver, stepOutcome, callBy, callOutcome, listRoom, numbersOf, listBy, listOutcome}
 use Rattle.model.specs.declared.answer.Answer.{Answer}
@@ -57,7 +57,7 @@ unfolding isDone
 done-is e = ap isDone e
 
 accepts : (s : State) → firstOf (entryRefusals s) ≡ Done → Accepted s
-unfolding entryRefusals startRefusals wrongLength isFlat get isDone
+unfolding entryRefusals imageRefusals wrongLength isFlat get isDone
 accepts s e =
     let r₁ = not-refused _ _ refl (done-is e) in
     let r₂ = not-refused _ _ refl (r₁ .1) in
@@ -68,11 +68,11 @@ accepts s e =
     }
 
 accepted : (two : ℕ) (s : State) → Well two s → eqb (field two 7 1) 1 ≡ false → firstOf (entryRefusals s) ≡ Done
-unfolding entryRefusals startRefusals wrongLength isFlat get firstOf pick
+unfolding entryRefusals imageRefusals wrongLength isFlat get firstOf pick
 accepted two s W f = rw (W .low, f, W .size, sound-test s (W .sound))
 
 started-accepted : (x : Image) → firstOf (startRefusals x) ≡ Done → eqb (field (getD x 2 0) 7 1) 1 ≡ false
-unfolding startRefusals isFlat get isDone
+unfolding startRefusals imageRefusals isFlat get isDone
 started-accepted x e = not-refused _ _ refl (not-refused _ _ refl (done-is e) .1) .0
 
 pub never-refused : (room : ℕ) (x : Image) (es : List Event) → firstOf (startRefusals x) ≡ Done

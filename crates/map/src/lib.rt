@@ -26,6 +26,15 @@ pub const PAGE_11: usize = 640;
 // Lower 3: the module's state, with InterruptDeasserted in bit 0.
 pub const MODULE_STATE: usize = 3;
 
+// Page 02h: the limits of received power, two bytes each, in 0.1 µW.
+pub const HIGH_ALARM: usize = PAGE_02 + (192 - 128);
+
+pub const LOW_ALARM: usize = PAGE_02 + (194 - 128);
+
+pub const HIGH_WARNING: usize = PAGE_02 + (196 - 128);
+
+pub const LOW_WARNING: usize = PAGE_02 + (198 - 128);
+
 // Page 10h: DPDeinit, OutputDisableTx and OutputSquelchForceTx, a bit a lane; the triggers ApplyDPInit and ApplyImmediate; Staged Control Set 0.
 pub const DEINIT: usize = PAGE_10 + (128 - 128);
 

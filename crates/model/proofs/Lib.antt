@@ -1,2 +1,3 @@
--- Where descriptors lie.
+-- Where descriptors lie, and laws of the refusals.
 pub mod Descriptors
+pub mod Refused

@@ -8,12 +8,15 @@ use Rattle.bits.specs.Choice.{pick, both, implies}
 use Rattle.bits.specs.Loop.{tab, allBelow}
 use Rattle.bits.specs.Word.{word}
 use Rattle.model.specs.Map.{Image, imageLength}
-use Rattle.model.specs.Refusals.{isFlat}
+use Rattle.model.specs.Answers.{isDone}
+use Rattle.model.specs.Refusals.{firstOf, startRefusals}
+use Rattle.model.specs.declared.answer.Answer.{Answer}
+use Rattle.model.specs.declared.answer.Answer.the-variants.{Malformed}
 use Rattle.model.specs.declared.event.Call.{Call}
 use Rattle.model.specs.declared.event.Call.the-variants.{Write, Read, Work, Hardware, Condition, Sample}
 use Rattle.model.specs.declared.event.Event.{Event}
 use Rattle.model.specs.declared.file.FileCheck.{FileCheck}
-use Rattle.model.specs.declared.file.FileCheck.the-variants.{Malformed, FlatMemory, Good}
+use Rattle.model.specs.declared.file.FileCheck.the-variants.{Refused, Good}
 
 -- ---- the header: "WL", edition, 0, then three numbers of four bytes
 
@@ -113,10 +116,13 @@ eventAt file k = record { call = callAt file k; bytes = tab dataLimit (λ j. rec
 unfoldable pub eventsIn : List ℕ → List Event
 eventsIn file = tab (recordCount file) (eventAt file)
 
--- ---- the check of the whole file: malformed first, then flat
+-- ---- the check of the whole file: malformed first, then what start answers to its image
 
 unfoldable pub isWellFormed : List ℕ → Bool
 isWellFormed file = both (both (isHeader file) (isWholeLength file)) (allBelow (recordCount file) (isRecord file))
 
+unfoldable pub foundBy : Answer → List ℕ → FileCheck
+foundBy a file = pick (isDone a) (Good (recordCount file)) (Refused a)
+
 unfoldable pub checked : List ℕ → FileCheck
-checked file = pick (isWellFormed file) (pick (isFlat (imageIn file)) FlatMemory (Good (recordCount file))) Malformed
+checked file = pick (isWellFormed file) (foundBy (firstOf (startRefusals (imageIn file))) file) (Refused Malformed)

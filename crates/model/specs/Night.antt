@@ -8,10 +8,8 @@ use Rattle.model.specs.Step.{Out, run}
 use Rattle.model.specs.Outcome.{listRoom}
 use Rattle.model.specs.File.{imageIn, eventsIn, checked}
 use Rattle.model.specs.Text.{line, badLine}
-use Rattle.model.specs.declared.answer.Answer as answers
-use Rattle.model.specs.declared.answer.Answer.the-variants as answer
 use Rattle.model.specs.declared.file.FileCheck.{FileCheck}
-use Rattle.model.specs.declared.file.FileCheck.the-variants.{Malformed, FlatMemory, Good}
+use Rattle.model.specs.declared.file.FileCheck.the-variants.{Refused, Good}
 
 -- the lines of steps whose first has an index
 unfoldable pub linesFrom : ℕ → List Out → List ℕ
@@ -23,8 +21,7 @@ unfoldable pub nightOf : List ℕ → List Out
 nightOf file = run early listRoom (started (imageIn file)) (eventsIn file)
 
 unfoldable pub printedBy : FileCheck → List ℕ → List ℕ
-printedBy Malformed file = badLine (number answer.Malformed)
-printedBy FlatMemory file = badLine (number answer.FlatMemory)
+printedBy (Refused a) file = badLine (number a)
 printedBy (Good count) file = linesFrom 0 (nightOf file)
 
 -- all that is printed for a file

@@ -53,12 +53,16 @@ isUnused s l = not (isUsed (of (settingsOf activeSet (s .image)) l))
 
 -- ---- the lists
 
+-- asked of every lent image
+unfoldable pub imageRefusals : Image → List Refusal
+imageRefusals x = refuse WrongLength (wrongLength x) ∷ refuse FlatMemory (isFlat x) ∷ []
+
 unfoldable pub startRefusals : Image → List Refusal
-startRefusals x = refuse WrongLength (wrongLength x) ∷ refuse FlatMemory (isFlat x) ∷ []
+startRefusals x = imageRefusals x
 
 -- asked once of a call, or once of a whole list of events
 unfoldable pub entryRefusals : State → List Refusal
-entryRefusals s = startRefusals (s .image) ++ (refuse Unsound (not (isSound s)) ∷ [])
+entryRefusals s = imageRefusals (s .image) ++ (refuse Unsound (not (isSound s)) ∷ [])
 
 -- asked of an event; room is the length of the buffer that a read is lent
 unfoldable pub eventRefusals : ℕ → State → Call → List Refusal

@@ -1,8 +1,8 @@
 // Night files.
+use crate::answer::Answer;
 
-// What the check of a whole file finds: its record count, or why nothing of it is replayed.
+// What the check of a whole file finds: its record count, or the answer for which nothing of it is replayed.
 pub enum FileCheck {
-    Malformed,
-    FlatMemory,
+    Refused(Answer),
     Good(u32),
 }

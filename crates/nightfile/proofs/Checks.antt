@@ -6,18 +6,18 @@ use Prim.Native.Nat.{ℕ, _+_, _*_, _≤_, _<_}
 use native.Mathlib.Numerals.{add-one}
 use native.Mathlib.Omega.{arith}
 use lib.Dec.{eqb, leb, ltb}
-use lib.ListN.{length, getD, drop}
-use lib.Seq.{getD-take, getD-drop}
+use lib.ListN.{length}
 use borrow.Author.Tests.{ltb-false, eqb-true, lt-ltb, le-ltb, le-leb, lt-leb, eq-eqb, ne-eqb}
 use Rattle.bits.specs.Choice.{pick, both, implies}
-use Rattle.bits.specs.Number.{field}
-use Rattle.bits.specs.Place.{get}
 use Rattle.bits.specs.Loop.{allBelow}
 use Rattle.bits.proofs.Tests.{split, clash, both-i, both-r, implies-i, pick-true, pick-false}
 use Rattle.bits.proofs.Loops.{all-at, all-intro}
-use Rattle.model.specs.Refusals.{isFlat}
-use Rattle.model.specs.File.{recordCount, isHeader, isWholeLength, imageIn, recordByte, usedBytes, isRecord, isWellFormed, checked}
-use Rattle.model.specs.declared.file.FileCheck.the-variants.{Malformed, FlatMemory, Good}
+use Rattle.model.specs.Answers.{number, isDone}
+use Rattle.model.specs.Refusals.{firstOf, startRefusals}
+use Rattle.model.specs.File.{recordCount, isHeader, isWholeLength, imageIn, recordByte, usedBytes, isRecord, isWellFormed, foundBy, checked}
+use Rattle.model.specs.declared.answer.Answer.{Answer}
+use Rattle.model.specs.declared.answer.Answer.the-variants.{Malformed}
+use Rattle.model.specs.declared.file.FileCheck.the-variants.{Refused, Good}
 
 -- ---- tests
 -- tests joined by `&`
@@ -102,24 +102,20 @@ module _ (file : List ℕ) (k : ℕ) where
 
 -- ---- what the check finds
 module _ (file : List ℕ) where
-  pub finds-no-frame : both (isHeader file) (isWholeLength file) ≡ false → checked file ≡ Malformed
+  pub finds-no-frame : both (isHeader file) (isWholeLength file) ≡ false → checked file ≡ Refused Malformed
   unfolding checked isWellFormed
   finds-no-frame e = pick-false _ _ (both-left _ _ e)
 
-  pub finds-no-record : allBelow (recordCount file) (isRecord file) ≡ false → checked file ≡ Malformed
+  pub finds-no-record : allBelow (recordCount file) (isRecord file) ≡ false → checked file ≡ Refused Malformed
   unfolding checked isWellFormed
   finds-no-record e = pick-false _ _ (both-right _ _ e)
 
   module _ (f : both (isHeader file) (isWholeLength file) ≡ true) (r : allBelow (recordCount file) (isRecord file) ≡ true) where
-    pub finds-flat : isFlat (imageIn file) ≡ true → checked file ≡ FlatMemory
-    unfolding checked isWellFormed
-    finds-flat e = pick-true _ _ (both-i f r) ∙ pick-true _ _ e
+    -- the answer of start, by its number
+    pub finds-refused : (a : Answer) (n : ℕ) → a ≡ firstOf (startRefusals (imageIn file)) → n ≡ number a → (n ≡ 0 → ⊥) → checked file ≡ Refused a
+    unfolding checked isWellFormed foundBy isDone
+    finds-refused a n e p h = rw (← e) (pick-true _ _ (both-i f r) ∙ pick-false _ _ (rw (← p) (ne-eqb n 0 h)))
 
-    pub finds-good : isFlat (imageIn file) ≡ false → checked file ≡ Good (recordCount file)
-    unfolding checked isWellFormed
-    finds-good e = pick-true _ _ (both-i f r) ∙ pick-false _ _ e
-
-  -- the image's flat bit is in the file's byte 18
-  pub flat-byte : isFlat (imageIn file) ≡ eqb (field (getD file 18 0) 7 1) 1
-  unfolding isFlat imageIn get
-  flat-byte = rw (getD-take 768 (drop 16 file) 2 0 (omega arith), getD-drop 16 file 2 0)
+    pub finds-good : (a : Answer) (n : ℕ) → a ≡ firstOf (startRefusals (imageIn file)) → n ≡ number a → n ≡ 0 → checked file ≡ Good (recordCount file)
+    unfolding checked isWellFormed foundBy isDone
+    finds-good a n e p h = rw (← e) (pick-true _ _ (both-i f r) ∙ pick-true _ _ (rw (← p) (eq-eqb n 0 h)))

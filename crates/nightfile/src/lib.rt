@@ -6,6 +6,7 @@ ghost use lib.Dec.{ltb};
 ghost use Rattle.bits.specs.Choice.{pick, both};
 ghost use Rattle.bits.specs.Loop.{allBelow};
 ghost use Rattle.model.specs.File.{isHeader, isWholeLength, recordByte, usedBytes, isRecord, callAt, eventAt, checked};
+use model::answer::Answer;
 use model::event::Call;
 use model::event::Event;
 use model::file::FileCheck;
@@ -131,19 +132,20 @@ fn are_records(file: &[u8], count: u32) -> bool
     true
 }
 
-// The check of a whole file: malformed first, then flat.
+// The check of a whole file: malformed first, then what start answers to its image.
 pub fn check(file: &[u8]) -> FileCheck
     ensures { λ r. ⌜ r ≡ checked (now (file .entry)) ⌝ }
 {
     if !is_framed(file) {
-        return FileCheck::Malformed;
+        return FileCheck::Refused(Answer::Malformed);
     }
     let count = words::word4(file, COUNT_AT);
     if !are_records(file, count) {
-        return FileCheck::Malformed;
+        return FileCheck::Refused(Answer::Malformed);
     }
-    if bits::take_field(file[IMAGE_OFFSET + 2], 7, 1) == 1 {
-        return FileCheck::FlatMemory;
+    let answer = startup::refusal(&file[IMAGE_OFFSET..RECORDS_OFFSET]);
+    if answer.number() != 0 {
+        return FileCheck::Refused(answer);
     }
     FileCheck::Good(count)
 }

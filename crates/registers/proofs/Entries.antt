@@ -14,67 +14,49 @@ use Rattle.model.specs.Triggers.{State}
 use Rattle.model.specs.Work.{early}
 use Rattle.model.specs.Start.{started}
 use Rattle.model.specs.Sound.{isSound}
-use Rattle.model.specs.Refusals.{firstOf, isFlat, wrongLength, startRefusals, entryRefusals}
+use Rattle.model.specs.Refusals.{firstOf, isFlat, wrongLength, imageRefusals, startRefusals, entryRefusals}
 use Rattle.model.specs.Step.{step}
 use Rattle.model.specs.Outcome.{Leaves, unchanged, startBy, startOutcome, stepOutcome, callBy, callOutcome}
 use Rattle.model.specs.declared.answer.Answer.{Answer}
 use Rattle.model.specs.declared.answer.Answer.the-variants.{Done, WrongLength, FlatMemory, Unsound}
 use Rattle.model.specs.declared.answer.Left.{Left}
 use Rattle.model.specs.declared.event.Event.{Event}
-use Rattle.replies.proofs.Outcomes.{first-here, first-next, first-none}
+use Rattle.model.proofs.Refused.{first-here, first-next, first-none}
+use Rattle.startup.proofs.Refusing.{has-length, other-length}
 
-has-length : (x : Image) → length x ≡ 768 → wrongLength x ≡ false
-unfolding wrongLength
-has-length x e = ap not (eq-eqb _ _ e)
-
-other-length : (x : Image) → (length x ≡ 768 → ⊥) → wrongLength x ≡ true
-unfolding wrongLength
-other-length x n = ap not (ne-eqb _ _ n)
-
--- ---- start: 1, then 2
+-- ---- start
 module _ (x : Image) where
-  pub start-length : (length x ≡ 768 → ⊥) → firstOf (startRefusals x) ≡ WrongLength
-  unfolding startRefusals
-  start-length n = first-here _ _ _ (other-length x n)
-
-  pub start-flat : length x ≡ 768 → isFlat x ≡ true → firstOf (startRefusals x) ≡ FlatMemory
-  unfolding startRefusals
-  start-flat e f = first-next _ _ _ (has-length x e) ∙ first-here _ _ _ f
-
-  pub start-good : length x ≡ 768 → isFlat x ≡ false → firstOf (startRefusals x) ≡ Done
-  unfolding startRefusals
-  start-good e f = first-next _ _ _ (has-length x e) ∙ first-next _ _ _ f ∙ first-none
-
-  -- a refused start leaves the image, with all lanes idle
-  pub start-refused : (a : Answer) (r : Left) → firstOf (startRefusals x) ≡ a → isDone a ≡ false
+  -- a refused one leaves the image, with all lanes idle
+  pub start-refused : (a : Answer) (r : Left) → a ≡ firstOf (startRefusals x) → isDone (firstOf (startRefusals x)) ≡ false
       → r ≡ record { answer = a; mask = 0; working = idleWorking } → Leaves (startOutcome x) r x []
   unfolding startOutcome startBy pick
   start-refused a r p q h =
-      rw (p, q)
-      (record { answer = ap (λ t. t .answer) h; image = refl; working = ap (λ t. t .working) h; buffer = refl; mask = ap (λ t. t .mask) h })
+      rw q
+      (record { answer = ap (λ t. t .answer) h ∙ p; image = refl; working = ap (λ t. t .working) h; buffer = refl; mask = ap (λ t. t .mask) h })
 
-  pub start-done : (r : Left) (y : Image) → firstOf (startRefusals x) ≡ Done → y ≡ started x .image
-      → r ≡ record { answer = Done; mask = 0; working = idleWorking } → Leaves (startOutcome x) r y []
-  unfolding startOutcome startBy isDone started pick
-  start-done r y p hy h =
-      rw p (record { answer = ap (λ t. t .answer) h; image = hy; working = ap (λ t. t .working) h; buffer = refl; mask = ap (λ t. t .mask) h })
+  pub start-done : (a : Answer) (r : Left) (y : Image) → a ≡ firstOf (startRefusals x) → isDone (firstOf (startRefusals x)) ≡ true
+      → y ≡ started x .image → r ≡ record { answer = a; mask = 0; working = idleWorking } → Leaves (startOutcome x) r y []
+  unfolding startOutcome startBy started pick
+  start-done a r y p q hy h =
+      rw q
+      (record { answer = ap (λ t. t .answer) h ∙ p; image = hy; working = ap (λ t. t .working) h; buffer = refl; mask = ap (λ t. t .mask) h })
 
 -- ---- every other call: 1, 2, then 3
 module _ (s : State) where
   pub entry-length : (length (s .image) ≡ 768 → ⊥) → WrongLength ≡ firstOf (entryRefusals s)
-  unfolding entryRefusals startRefusals
+  unfolding entryRefusals imageRefusals
   entry-length n = sym (first-here _ _ _ (other-length (s .image) n))
 
   pub entry-flat : length (s .image) ≡ 768 → isFlat (s .image) ≡ true → FlatMemory ≡ firstOf (entryRefusals s)
-  unfolding entryRefusals startRefusals
+  unfolding entryRefusals imageRefusals
   entry-flat e f = sym (first-next _ _ _ (has-length (s .image) e) ∙ first-here _ _ _ f)
 
   pub entry-unsound : length (s .image) ≡ 768 → isFlat (s .image) ≡ false → isSound s ≡ false → Unsound ≡ firstOf (entryRefusals s)
-  unfolding entryRefusals startRefusals
+  unfolding entryRefusals imageRefusals
   entry-unsound e f n = sym (first-next _ _ _ (has-length (s .image) e) ∙ first-next _ _ _ f ∙ first-here _ _ _ (ap not n))
 
   pub entry-good : length (s .image) ≡ 768 → isFlat (s .image) ≡ false → isSound s ≡ true → Done ≡ firstOf (entryRefusals s)
-  unfolding entryRefusals startRefusals
+  unfolding entryRefusals imageRefusals
   entry-good e f n = sym (first-next _ _ _ (has-length (s .image) e) ∙ first-next _ _ _ f ∙ first-next _ _ _ (ap not n) ∙ first-none)
 
   -- what is not refused has its length

@@ -1,29 +1,14 @@
 // The public calls: each answers every input, in the order 1, 2, 3, 4, 8, 5, 7, 6, and asks for soundness once.
 ghost use mathlib.Core.Path.{_≡_};
 ghost use mathlib.Core.List.{[]};
-ghost use lib.ListN.{length};
 ghost use Rattle.model.specs.Outcome.{Leaves, state, startOutcome, callOutcome};
-ghost use Rattle.model.specs.Refusals.{firstOf, isFlat, entryRefusals};
+ghost use Rattle.model.specs.Refusals.{firstOf, entryRefusals};
 ghost use Rattle.model.specs.Step.{event};
 ghost use Rattle.model.specs.declared.event.Call.the-variants.{Write, Read, Work, Hardware, Condition, Sample};
 ghost use Rattle.replies.specs.Asked.{asked};
-use bits::Place;
 use model::answer::Answer;
 use model::answer::Left;
 use model::lane::Working;
-
-// Whether the memory is flat: MemoryModel, lower 2.7.
-fn is_flat(image: &[u8]) -> bool
-    requires { ⌜ length (now image) ≡ 768 ⌝ }
-    ensures { λ r. ⌜ r ≡ isFlat (now (image .entry)) ⌝ }
-{
-    let model = Place {
-        byte: 2,
-        shift: 7,
-        width: 1,
-    };
-    bits::get(image, model) == 1
-}
 
 // What is asked once of every call but start: the refusals 1, 2 and 3.
 pub fn entry(image: &[u8], w: Working) -> Answer
@@ -32,7 +17,7 @@ pub fn entry(image: &[u8], w: Working) -> Answer
     if image.len() != map::IMAGE_LENGTH {
         return Answer::WrongLength;
     }
-    if is_flat(image) {
+    if startup::is_flat(image) {
         return Answer::FlatMemory;
     }
     if !soundness::is_sound(image, w) {
@@ -46,14 +31,12 @@ pub fn start(image: &mut [u8]) -> Left
     ensures { λ r. ⌜ Leaves (startOutcome (now (image .entry))) r (now (image .exit)) [] ⌝ }
 {
     let idle = Working::idle();
-    if image.len() != map::IMAGE_LENGTH {
-        return replies::reply(Answer::WrongLength, idle);
-    }
-    if is_flat(image) {
-        return replies::reply(Answer::FlatMemory, idle);
+    let answer = startup::refusal(image);
+    if answer.number() != 0 {
+        return replies::reply(answer, idle);
     }
     startup::reset(image);
-    replies::reply(Answer::Done, idle)
+    replies::reply(answer, idle)
 }
 
 // A host write of count of the bytes that are given.

@@ -7,14 +7,16 @@ use native.Mathlib.Omega.{arith}
 use lib.ListN.{length}
 use borrow.Author.Tests.{leb-true}
 use Rattle.bits.proofs.Tests.{split, both-l, both-r, pick-true, pick-false}
-use Rattle.model.specs.Refusals.{isFlat}
+use Rattle.model.specs.Answers.{number, isDone}
+use Rattle.model.specs.Refusals.{firstOf, startRefusals}
 use Rattle.model.specs.Start.{started}
 use Rattle.model.specs.Lanes.{idleWorking}
 use Rattle.model.specs.Outcome.{state}
-use Rattle.model.specs.File.{recordCount, isHeader, imageIn, eventsIn, isWellFormed, checked}
+use Rattle.model.specs.File.{recordCount, isHeader, imageIn, eventsIn, isWellFormed, foundBy, checked}
 use Rattle.model.specs.Text.{badLine}
 use Rattle.model.specs.Night.{nightOf, printedBy, printed}
-use Rattle.model.specs.declared.file.FileCheck.the-variants.{Malformed, FlatMemory, Good}
+use Rattle.model.specs.declared.answer.Answer.{Answer}
+use Rattle.model.specs.declared.file.FileCheck.the-variants.{Refused, Good}
 use Rattle.nightfile.proofs.Checks.{framed-length}
 use Rattle.replay.specs.Replay.{textAfter}
 
@@ -38,22 +40,18 @@ good-count file n w e =
     }
 
 pub good-file : (file : List ℕ) (count : ℕ) → checked file ≡ Good count → IsGood file count
-unfolding checked
+unfolding checked foundBy
 good-file file count g = split (isWellFormed file)
-    (λ w. split (isFlat (imageIn file))
-    (λ f. let e = sym g ∙ pick-true _ _ w ∙ pick-true _ _ f in let z : _≡_ {A = ℕ} 0 1 = cc e in absurd (omega arith))
-    (λ f. let e = sym g ∙ pick-true _ _ w ∙ pick-false _ _ f in let q : recordCount file ≡ count = cc e in good-count file count w q))
+    (λ w. split (isDone (firstOf (startRefusals (imageIn file))))
+    (λ f. let e = sym g ∙ pick-true _ _ w ∙ pick-true _ _ f in let q : recordCount file ≡ count = cc e in good-count file count w q)
+    (λ f. let e = sym g ∙ pick-true _ _ w ∙ pick-false _ _ f in let z : _≡_ {A = ℕ} 0 1 = cc e in absurd (omega arith)))
     (λ w. let e = sym g ∙ pick-false _ _ w in let z : _≡_ {A = ℕ} 0 1 = cc e in absurd (omega arith))
 
 -- what is printed, by what the check found
 module _ (file : List ℕ) where
-  pub prints-malformed : checked file ≡ Malformed → printed file ≡ badLine 9
+  pub prints-refused : (a : Answer) → checked file ≡ Refused a → printed file ≡ badLine (number a)
   unfolding printed printedBy
-  prints-malformed e = rw e
-
-  pub prints-flat : checked file ≡ FlatMemory → printed file ≡ badLine 2
-  unfolding printed printedBy
-  prints-flat e = rw e
+  prints-refused a e = rw e
 
   pub prints-night : (count : ℕ) → checked file ≡ Good count → printed file ≡ textAfter (state (started (imageIn file) .image) idleWorking) file count
   unfolding printed printedBy nightOf eventsIn textAfter started

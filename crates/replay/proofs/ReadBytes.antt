@@ -1,7 +1,7 @@
 -- Laws of what a step shows: a read that is done shows its count of bytes, never more than fit a read; any other event shows none. Assumes nothing.
 use mathlib.Core.Path.{_≡_, refl, sym, ap, _∙_}
-use mathlib.Core.Bool.{true, false}
-use mathlib.Core.List.{List, []}
+use mathlib.Core.Bool.{Bool, true, false}
+use mathlib.Core.List.{List, [], _∷_}
 use Prim.Native.Nat.{ℕ, _≤_, _<_}
 use native.Mathlib.Omega.{arith}
 use lib.Dec.{ltb}
@@ -15,7 +15,7 @@ use Rattle.model.specs.Answers.{number, isDone}
 use Rattle.model.specs.Triggers.{State}
 use Rattle.model.specs.Work.{Carried, Mode, early, workStep, workedOn, workedBy, closedPass}
 use Rattle.model.specs.Access.{taken, isBadAccess, readLimit}
-use Rattle.model.specs.Refusals.{firstOf, eventRefusals}
+use Rattle.model.specs.Refusals.{Refusal, refuse, firstOf, eventRefusals}
 use Rattle.model.specs.Step.{readAt, carried, done, refused, answered, step}
 use Rattle.model.specs.Outcome.{laidOver, listRoom}
 use Rattle.model.specs.Text.{line}
@@ -103,8 +103,30 @@ module _ (room : ℕ) (s : State) (e : Event) where
       (λ d. rw (step-length, pick-true (readCount (e .call)) 0 d) (read-most room s (e .call) d))
       (λ d. rw (step-length, pick-false (readCount (e .call)) 0 d) (omega arith))
 
--- every answer's number is a digit
-pub number-lt : (a : Answer) → number a < 10
+-- an event is answered with a digit
+digit-or : (a : Answer) (c : Bool) (rs : List Refusal) → number a < 10 → number (firstOf rs) < 10 → number (firstOf (refuse a c ∷ rs)) < 10
+unfolding firstOf pick
+digit-or a true rs h r = h
+digit-or a false rs h r = r
+
+none-digit : number (firstOf []) < 10
+unfolding firstOf
+none-digit = omega arith
+
+event-digit : (room : ℕ) (s : State) (call : Call) → number (firstOf (eventRefusals room s call)) < 10
+unfolding eventRefusals
+event-digit room s (Write address count) = digit-or _ _ _ (omega arith) none-digit
+event-digit room s (Read address count) = digit-or _ _ _ (omega arith) (digit-or _ _ _ (omega arith) none-digit)
+event-digit room s (Work l) = digit-or _ _ _ (omega arith) (digit-or _ _ _ (omega arith) none-digit)
+event-digit room s (Hardware l) = digit-or _ _ _ (omega arith) (digit-or _ _ _ (omega arith) (digit-or _ _ _ (omega arith) none-digit))
+event-digit room s (Condition flag mask) = digit-or _ _ _ (omega arith) none-digit
+event-digit room s (Sample l p) = digit-or _ _ _ (omega arith) none-digit
+
+step-digit : (room : ℕ) (s : State) (e : Event) → number (step early room s e .answer) < 10
+step-digit room s e = rw (step-answer room s e) (event-digit room s (e .call))
+
+-- every answer's number has at most two digits
+pub number-lt : (a : Answer) → number a < 100
 number-lt Done = omega arith
 number-lt WrongLength = omega arith
 number-lt FlatMemory = omega arith
@@ -131,4 +153,4 @@ module _ (s : State) (e : Event) (a n : ℕ) (buffer left : List ℕ) (buffered 
 
 -- and how long it is at most
 pub line-fits : (s : State) (e : Event) (k : ℕ) → k < 5000 → length (line k (number (step early listRoom s e .answer)) (step early listRoom s e .bytes)) ≤ 391
-line-fits s e k h = line-most k _ _ (omega arith) (number-lt (step early listRoom s e .answer)) (step-most listRoom s e)
+line-fits s e k h = line-most k _ _ (omega arith) (step-digit listRoom s e) (step-most listRoom s e)

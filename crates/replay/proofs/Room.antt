@@ -13,11 +13,11 @@ use Rattle.model.specs.File.{eventAt, checked}
 use Rattle.model.specs.Text.{line}
 use Rattle.model.specs.Night.{linesFrom, printed}
 use Rattle.model.specs.declared.file.FileCheck.{FileCheck}
-use Rattle.model.specs.declared.file.FileCheck.the-variants.{Malformed, FlatMemory, Good}
-use Rattle.text.proofs.Lines.{length-bad}
+use Rattle.model.specs.declared.file.FileCheck.the-variants.{Refused, Good}
+use Rattle.text.proofs.Lines.{bad-most}
 use Rattle.replay.specs.Replay.{roomFor, stateAfter, textAfter}
-use Rattle.replay.proofs.Files.{good-file, prints-malformed, prints-flat, prints-night}
-use Rattle.replay.proofs.ReadBytes.{line-fits}
+use Rattle.replay.proofs.Files.{good-file, prints-refused, prints-night}
+use Rattle.replay.proofs.ReadBytes.{number-lt, line-fits}
 use Rattle.replay.proofs.Records.{stepOf, text-next}
 
 -- 391 bytes a record
@@ -32,8 +32,7 @@ text-fits s file (suc k) h =
 
 found-fits : (file : List ℕ) (found : FileCheck) → checked file ≡ found → length (printed file) ≤ roomFor found
 unfolding roomFor
-found-fits file Malformed e = rw (prints-malformed file e) (omega (arith, length-bad 9 (omega arith)))
-found-fits file FlatMemory e = rw (prints-flat file e) (omega (arith, length-bad 2 (omega arith)))
+found-fits file (Refused a) e = rw (prints-refused file a e) (bad-most (number a) (number-lt a))
 found-fits file (Good count) e = rw (prints-night file count e) (text-fits _ file count (good-file file count e .few))
 
 -- THE ROOM IS ENOUGH, whatever bytes the file holds

@@ -18,7 +18,7 @@ use Rattle.model.specs.Night.{linesFrom}
 use Rattle.model.specs.declared.event.Call.{Call}
 use Rattle.model.specs.declared.event.Call.the-variants.{Write, Read, Work, Hardware, Condition, Sample}
 use Rattle.model.specs.declared.file.FileCheck.{FileCheck}
-use Rattle.model.specs.declared.file.FileCheck.the-variants.{Malformed, FlatMemory, Good}
+use Rattle.model.specs.declared.file.FileCheck.the-variants.{Refused, Good}
 use Rattle.text.specs.Buffer.{Puts}
 use Rattle.replay.specs.declared.Reached.{Reached}
 use Rattle.replay.specs.declared.Replayed.{Replayed}
@@ -35,8 +35,7 @@ abbrev pub badRoom : ℕ
 badRoom = 7
 
 unfoldable pub roomFor : FileCheck → ℕ
-roomFor Malformed = badRoom
-roomFor FlatMemory = badRoom
+roomFor (Refused a) = badRoom
 roomFor (Good count) = lineRoom * count
 
 -- ---- what a replay leaves: a buffer without the room is as it was; else the text lies over its front, and the answer counts its bytes

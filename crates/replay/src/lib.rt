@@ -2,6 +2,7 @@
 ghost use mathlib.Core.Path.{_≡_};
 ghost use Prim.Native.Nat.{_+_, _*_, _≤_, _<_};
 ghost use lib.ListN.{length};
+ghost use Rattle.model.specs.Answers.{number};
 ghost use Rattle.model.specs.Start.{started};
 ghost use Rattle.model.specs.Work.{early};
 ghost use Rattle.model.specs.Step.{step};
@@ -13,6 +14,7 @@ ghost use Rattle.model.specs.Night.{printed};
 ghost use Rattle.model.specs.declared.file.FileCheck.the-variants as found;
 ghost use Rattle.text.specs.Buffer.{Puts};
 ghost use Rattle.replay.specs.Replay.{roomFor, answerFor, leftIn, Gives, countOf, shownBy, textAfter, Turns};
+use model::answer::Answer;
 use model::event::Call;
 use model::file::FileCheck;
 use model::lane::Working;
@@ -137,14 +139,13 @@ fn print_good(file: &[u8], count: u32, out: &mut [u8]) -> Replayed
 }
 
 // The line of a file that is not replayed.
-fn print_bad(answer: u8, out: &mut [u8]) -> Replayed
-    requires { ⌜ answer < 10 ⌝ }
-    ensures { λ r. ⌜ Gives 7 (badLine answer) (now (out .entry)) (now (out .exit)) r ⌝ }
+fn print_bad(answer: Answer, out: &mut [u8]) -> Replayed
+    ensures { λ r. ⌜ Gives 7 (badLine (number answer)) (now (out .entry)) (now (out .exit)) r ⌝ }
 {
     if out.len() < BAD_ROOM {
         return Replayed::ShortBuffer;
     }
-    let n = text::put_bad(out, 0, answer);
+    let n = text::put_bad(out, 0, answer.number());
     Replayed::Printed(n)
 }
 
@@ -154,8 +155,7 @@ pub fn replay(file: &[u8], out: &mut [u8]) -> Replayed
 {
     let found = nightfile::check(file);
     match found {
-        FileCheck::Malformed => print_bad(9, out),
-        FileCheck::FlatMemory => print_bad(2, out),
+        FileCheck::Refused(answer) => print_bad(answer, out),
         FileCheck::Good(count) => print_good(file, count, out),
     }
 }

@@ -21,7 +21,7 @@ use Rattle.model.specs.declared.answer.Answer.the-variants.{Done, BadAccess, Sh
 use Rattle.model.specs.declared.event.Call.the-variants.{Write, Read, Work, Hardware, Condition, Sample}
 use Rattle.model.specs.declared.lane.Stage.{Stage}
 use Rattle.model.specs.declared.lane.Working.{Working}
-use Rattle.replies.proofs.Outcomes.{first-here, first-next, first-none}
+use Rattle.model.proofs.Refused.{first-here, first-next, first-none}
 
 lane-there : (l : ℕ) → l < 8 → noSuchLane l ≡ false
 unfolding noSuchLane

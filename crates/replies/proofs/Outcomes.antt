@@ -1,6 +1,6 @@
 -- What a step leaves, once its answer is known. Assumes nothing.
 use mathlib.Core.Path.{_≡_, refl, ap, sym, _∙_}
-use mathlib.Core.Bool.{Bool, true, false}
+use mathlib.Core.Bool.{false}
 use mathlib.Core.List.{List, [], _∷_}
 use Prim.Native.Nat.{ℕ, _≤_}
 use native.Mathlib.Omega.{arith}
@@ -14,7 +14,7 @@ use Rattle.model.specs.Triggers.{State}
 use Rattle.model.specs.Work.{Carried, leaves, early, closedPass, workedBy, workedOn, workStep}
 use Rattle.model.specs.Flags.{settled}
 use Rattle.model.specs.Access.{withImage}
-use Rattle.model.specs.Refusals.{Refusal, refuse, firstOf, eventRefusals}
+use Rattle.model.specs.Refusals.{firstOf, eventRefusals}
 use Rattle.model.specs.Step.{carried, done, refused, answered, step}
 use Rattle.model.specs.Outcome.{Leaves, laidOver, stepOutcome}
 use Rattle.model.specs.declared.answer.Answer.{Answer}
@@ -27,19 +27,6 @@ use Rattle.model.specs.declared.lane.Stage.the-variants.{Idle, InProgress}
 use Rattle.model.specs.declared.lane.Trigger.{Trigger}
 use Rattle.model.specs.declared.lane.Verdict.{Verdict}
 use Rattle.model.specs.declared.lane.Verdict.the-variants.{Pass, Reject}
-
--- the first refusal, one condition at a time
-pub first-here : (a : Answer) (c : Bool) (rs : List Refusal) → c ≡ true → firstOf (refuse a c ∷ rs) ≡ a
-unfolding firstOf
-first-here a c rs e = pick-true _ _ e
-
-pub first-next : (a : Answer) (c : Bool) (rs : List Refusal) → c ≡ false → firstOf (refuse a c ∷ rs) ≡ firstOf rs
-unfolding firstOf
-first-next a c rs e = pick-false _ _ e
-
-pub first-none : firstOf [] ≡ Done
-unfolding firstOf
-first-none = refl
 
 module _ (room : ℕ) (s : State) (e : Event) (buffer : List ℕ) where
   step-refused : (a : Answer) → firstOf (eventRefusals room s (e .call)) ≡ a → isDone a ≡ false → step early room s e ≡ refused a s

@@ -1,2 +1,3 @@
--- Start, byte by byte.
+-- Start: its refusals, and its image byte by byte.
+pub mod Refusing
 pub mod Starting

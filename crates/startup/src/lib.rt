@@ -1,7 +1,36 @@
-// Start: what stays of the image that a module is started with, and what is set.
+// Start: the images that it refuses, what stays of one that it takes, and what is set.
 ghost use mathlib.Core.Path.{_≡_};
 ghost use lib.ListN.{length};
+ghost use Rattle.model.specs.Refusals.{firstOf, isFlat, startRefusals};
 ghost use Rattle.model.specs.Start.{startValue, started};
+use bits::Place;
+use model::answer::Answer;
+
+// Whether the memory is flat: MemoryModel, lower 2.7.
+pub fn is_flat(image: &[u8]) -> bool
+    requires { ⌜ length (now image) ≡ 768 ⌝ }
+    ensures { λ r. ⌜ r ≡ isFlat (now (image .entry)) ⌝ }
+{
+    let model = Place {
+        byte: 2,
+        shift: 7,
+        width: 1,
+    };
+    bits::get(image, model) == 1
+}
+
+// What start has against an image, or that it takes it.
+pub fn refusal(image: &[u8]) -> Answer
+    ensures { λ r. ⌜ r ≡ firstOf (startRefusals (now (image .entry))) ⌝ }
+{
+    if image.len() != map::IMAGE_LENGTH {
+        return Answer::WrongLength;
+    }
+    if is_flat(image) {
+        return Answer::FlatMemory;
+    }
+    Answer::Done
+}
 
 // Lower 3: ModuleReady, no interrupt. 11h:128-131: DPDeactivated, two lanes a byte.
 const READY: u8 = 0x07;

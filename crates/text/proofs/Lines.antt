@@ -28,10 +28,15 @@ length-hex (b ∷ bs) = omega (arith, length-hex bs)
 pub length-hex-taken : (n : ℕ) (bs : List ℕ) → n ≤ length bs → length (hexBytes (take n bs)) ≡ 3 * n
 length-hex-taken n bs h = length-hex (take n bs) ∙ ap (λ k. 3 * k) (length-take-le n bs h)
 
--- an answer has one digit
+-- an event's answer has one digit
 pub length-answer : (a : ℕ) → a < 10 → length (decimal a) ≡ 1
 unfolding decimal
 length-answer a h = count-last 9 a h
+
+-- that of a file that is not replayed has at most two
+length-refusal : (a : ℕ) → a < 100 → length (decimal a) ≤ 2
+unfolding decimal
+length-refusal a h = count-most 1 10 a h
 
 -- an index of a night has at most four
 pub length-index : (k : ℕ) → k < 10000 → length (decimal k) ≤ 4
@@ -60,8 +65,8 @@ unfolding badLine ascii
 bad-room a = simp length-append (omega arith)
 
 -- the line of a file that is not replayed
-pub length-bad : (a : ℕ) → a < 10 → length (badLine a) ≡ 6
-length-bad a h = omega (arith, bad-room a, length-answer a h)
+pub bad-most : (a : ℕ) → a < 100 → length (badLine a) ≤ 7
+bad-most a h = omega (arith, bad-room a, length-refusal a h)
 
 -- a turn of the loop over the bytes: their text so far, and one byte's after it
 pub hex-turn : (at : ℕ) (bytes before out after : List ℕ) (i : ℕ) → i < length bytes → at + 3 * (i + 1) ≤ length before

@@ -1,9 +1,9 @@
 -- `nightfile::check` meets its contract: its tests in the order of the check. Assumes nothing.
 use native.Mathlib.Omega.{arith}
 use mathlib.Core.Path.{_≡_, sym, _∙_}
-use borrow.Author.Tests.{not-true, not-false, eq-eqb, ne-eqb}
-use Rattle.model.specs.File.{recordCount}
-use Rattle.nightfile.proofs.Checks.{framed-length, finds-no-frame, finds-no-record, finds-flat, finds-good, flat-byte}
+use borrow.Author.Tests.{not-true, not-false}
+use Rattle.model.specs.File.{recordCount, imageIn}
+use Rattle.nightfile.proofs.Checks.{framed-length, finds-no-frame, finds-no-record, finds-refused, finds-good}
 use borrow.Author.Needs.{needs}
 use Rattle.nightfile.proofs.check.Statement.{statement}
 use Rattle.nightfile.proofs.check.Tie as tie
@@ -28,27 +28,37 @@ returns-2 : tie.Need-returns-2
 unfolding recordCount
 returns-2 c = sym (finds-no-record _ (rw (c .before .before .word4 .ensures) at (sym (c .before .are-records .ensures) ∙ not-true _ (c .if2 .taken))))
 
-add-take-field : tie.Need-add-take-field
-add-take-field c = search needs
+sub-refusal : tie.Need-sub-refusal
+sub-refusal c = search needs
 
-shared-slice-read-take-field : tie.Need-shared-slice-read-take-field
-shared-slice-read-take-field c = let l = framed-length (c .before .before .before .before .before .before .before .args .file .now) (sym (c .before .before .before .before .before .is-framed .ensures) ∙ not-false _ (c .before .before .before .before .if1 .left)) in omega arith
+part-refusal-start : tie.Need-part-refusal-start
+part-refusal-start c = search needs
 
-take-field-requires : tie.Need-take-field-requires
-take-field-requires c κs = search needs
+part-refusal-end : tie.Need-part-refusal-end
+part-refusal-end c = let l = framed-length (c .before .before .before .before .before .before .args .file .now) (sym (c .before .before .before .before .is-framed .ensures) ∙ not-false _ (c .before .before .before .if1 .left)) in omega arith
+
+refusal-requires : tie.Need-refusal-requires
+refusal-requires c κs = search needs
+
+number-requires : tie.Need-number-requires
+number-requires c κs = search needs
 
 returns-3 : tie.Need-returns-3
-unfolding recordCount
+unfolding recordCount imageIn
 returns-3 c =
-    sym (finds-flat _ (sym (c .before .before .before .before .before .before .before .is-framed .ensures) ∙ not-false _ (c .before .before .before .before .before .before .if1 .left)) (rw (c .before .before .before .before .before .word4 .ensures) at (sym (c .before .before .before .before .are-records .ensures) ∙ not-false _ (c .before .before .before .if2 .left)))
-    (flat-byte _ ∙ eq-eqb _ _ (sym (c .before .take-field .ensures) ∙ c .if3 .taken)))
+    sym (finds-refused _ (sym (c .before .before .before .before .before .before .before .before .is-framed .ensures) ∙ not-false _ (c .before .before .before .before .before .before .before .if1 .left)) (rw (c .before .before .before .before .before .before .word4 .ensures) at (sym (c .before .before .before .before .before .are-records .ensures) ∙ not-false _ (c .before .before .before .before .if2 .left))) _ _
+    (c .before .before .refusal .ensures)
+    (c .before .number .ensures)
+    (c .if3 .taken))
 
 returns-4 : tie.Need-returns-4
-unfolding recordCount
+unfolding recordCount imageIn
 returns-4 c =
-    rw (c .before .before .before .before .before .word4 .ensures)
-    (sym (finds-good _ (sym (c .before .before .before .before .before .before .before .is-framed .ensures) ∙ not-false _ (c .before .before .before .before .before .before .if1 .left)) (rw (c .before .before .before .before .before .word4 .ensures) at (sym (c .before .before .before .before .are-records .ensures) ∙ not-false _ (c .before .before .before .if2 .left)))
-    (flat-byte _ ∙ ne-eqb _ _ (λ e. c .if3 .left (c .before .take-field .ensures ∙ e)))))
+    rw (c .before .before .before .before .before .before .word4 .ensures)
+    (sym (finds-good _ (sym (c .before .before .before .before .before .before .before .before .is-framed .ensures) ∙ not-false _ (c .before .before .before .before .before .before .before .if1 .left)) (rw (c .before .before .before .before .before .before .word4 .ensures) at (sym (c .before .before .before .before .before .are-records .ensures) ∙ not-false _ (c .before .before .before .before .if2 .left))) _ _
+    (c .before .before .refusal .ensures)
+    (c .before .number .ensures)
+    (c .if3 .left)))
 
 pub check-spec : {M : Type 1} → statement M
 check-spec =
@@ -59,8 +69,10 @@ check-spec =
     word4-requires
     are-records-requires
     returns-2
-    add-take-field
-    shared-slice-read-take-field
-    take-field-requires
+    sub-refusal
+    part-refusal-start
+    part-refusal-end
+    refusal-requires
+    number-requires
     returns-3
     returns-4)

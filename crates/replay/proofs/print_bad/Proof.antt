@@ -1,6 +1,8 @@
 -- `replay::print_bad` meets its contract. Assumes nothing.
 use native.Mathlib.Omega.{arith}
-use Rattle.text.proofs.Lines.{length-bad}
+use Rattle.model.specs.Answers.{number}
+use Rattle.text.proofs.Lines.{bad-most}
+use Rattle.replay.proofs.ReadBytes.{number-lt}
 use Rattle.replay.proofs.Buffers.{gives-none, gives-text}
 use borrow.Author.Needs.{needs}
 use Rattle.replay.proofs.print_bad.Statement.{statement}
@@ -9,14 +11,19 @@ use Rattle.replay.proofs.print_bad.Tie as tie
 returns : tie.Need-returns
 returns c = gives-none (c .if1 .taken)
 
+number-requires : tie.Need-number-requires
+number-requires c κs = search needs
+
 put-bad-requires : tie.Need-put-bad-requires
-put-bad-requires c κs = omega (arith, length-bad (c .before .before .before .args .answer) (omega arith))
+put-bad-requires c κs =
+    let most = bad-most (number (c .before .before .before .before .args .answer)) (number-lt (c .before .before .before .before .args .answer)) in
+    rw (c .number .ensures) (omega arith)
 
 same-length : tie.Need-same-length
 same-length c = search needs
 
 returns-2 : tie.Need-returns-2
-returns-2 c = gives-text (c .before .before .before .before .if1 .left) (c .before .before .put-bad .ensures)
+returns-2 c = gives-text (c .before .before .before .before .before .if1 .left) (rw (c .before .before .before .number .ensures) at (c .before .before .put-bad .ensures))
 
 pub print-bad-spec : {M : Type 1} → statement M
-print-bad-spec = tie.close (tie.spec returns put-bad-requires same-length returns-2)
+print-bad-spec = tie.close (tie.spec returns number-requires put-bad-requires same-length returns-2)

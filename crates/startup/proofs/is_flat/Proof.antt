@@ -1,8 +1,8 @@
--- `registers::is_flat` meets its contract. Assumes nothing.
+-- `startup::is_flat` meets its contract. Assumes nothing.
 use borrow.Author.Needs.{needs}
 use Rattle.model.specs.Refusals.{isFlat}
-use Rattle.registers.proofs.is_flat.Statement.{statement}
-use Rattle.registers.proofs.is_flat.Tie as tie
+use Rattle.startup.proofs.is_flat.Statement.{statement}
+use Rattle.startup.proofs.is_flat.Tie as tie
 
 get-requires : tie.Need-get-requires
 get-requires c κs = search needs
