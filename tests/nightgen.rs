@@ -410,6 +410,16 @@ const WANTED: &[(&str, &[&str])] = &[
             "low warning: above", "low warning: equal", "low warning: below",
         ],
     ),
+    (
+        "limits of received power at start",
+        &[
+            "0 all four equal", "0 low alarm equal to low warning",
+            "0 low warning equal to high warning", "0 high warning equal to high alarm",
+            "0 no two equal",
+            "10 low alarm above low warning alone", "10 low warning above high warning alone",
+            "10 high warning above high alarm alone", "10 more than one the wrong way round",
+        ],
+    ),
     ("nights", &["no record", "one record", "5000 records", "index of four digits"]),
 ];
 
@@ -910,6 +920,38 @@ impl Coverage {
         }
     }
 
+    /// How a night's limits stand, against the number of its only line, 0 if it replays.
+    fn look_at_start(&mut self, image: &[u8; IMAGE_LEN], number: u8) {
+        const HEADING: &str = "limits of received power at start";
+        let [low_alarm, low_warning, high_warning, high_alarm] = limits(image);
+        let wrong = [low_alarm > low_warning, low_warning > high_warning, high_warning > high_alarm];
+        if wrong == [false; 3] {
+            assert_eq!(number, 0, "limits in order are refused");
+            if low_alarm == high_alarm {
+                return self.hit(HEADING, "0 all four equal");
+            }
+            let equal = [
+                (low_alarm == low_warning, "0 low alarm equal to low warning"),
+                (low_warning == high_warning, "0 low warning equal to high warning"),
+                (high_warning == high_alarm, "0 high warning equal to high alarm"),
+            ];
+            for &(_, name) in equal.iter().filter(|&&(holds, _)| holds) {
+                self.hit(HEADING, name);
+            }
+            if equal.iter().all(|&(holds, _)| !holds) {
+                self.hit(HEADING, "0 no two equal");
+            }
+        } else {
+            assert_eq!(number, 10, "limits back to front are taken");
+            self.hit(HEADING, match wrong {
+                [true, false, false] => "10 low alarm above low warning alone",
+                [false, true, false] => "10 low warning above high warning alone",
+                [false, false, true] => "10 high warning above high alarm alone",
+                _ => "10 more than one the wrong way round",
+            });
+        }
+    }
+
     fn look_at_interrupt(&mut self, before: &State, event: &Event, after: &State) {
         let asserted = |state: &State| state.image[3] & 1 == 0;
         let by_host_write = matches!(event, Event::Write { .. });
@@ -986,7 +1028,48 @@ fn put_descriptor(rng: &mut Rng, image: &mut [u8; IMAGE_LEN], a: usize, end: usi
     image[place + 3] = first;
 }
 
-/// An image as a night begins with: some Applications, limits, thresholds.
+/// Limits of received power in rising order: low alarm, low warning, high
+/// warning, high alarm. In memory they stand otherwise.
+fn put_limits(image: &mut [u8], rising: [u16; 4]) {
+    let [low_alarm, low_warning, high_warning, high_alarm] = rising;
+    let in_memory = [high_alarm, low_alarm, high_warning, low_warning];
+    for (which, limit) in in_memory.iter().enumerate() {
+        image[P02 + 192 + 2 * which..][..2].copy_from_slice(&limit.to_be_bytes());
+    }
+}
+
+fn limits(image: &[u8]) -> [u16; 4] {
+    let limit = |place: usize| image[P02 + place] as u16 * 256 + image[P02 + place + 1] as u16;
+    [limit(194), limit(198), limit(196), limit(192)]
+}
+
+/// Limits back to front: the first of the three comparisons alone and by 1,
+/// the second, the third, or all of them.
+fn turned_round(mut rising: [u16; 4], which: usize) -> [u16; 4] {
+    if which == 3 {
+        return [20000, 15000, 1500, 1000];
+    }
+    rising[which + 1] = rising[which + 1].min(65534);
+    rising[which] = rising[which + 1] + 1;
+    rising
+}
+
+/// Limits in order, some or all of them equal. Drawn from a copy: what else a
+/// seed gives does not depend on them.
+fn level_limits(mut rng: Rng) -> [u16; 4] {
+    let limit = rng.next() as u16;
+    let (below, above) = (limit / 2, limit.saturating_add(5000));
+    match rng.below(5) {
+        0 => [limit; 4],
+        1 => [limit, limit, above, above.saturating_add(1)],
+        2 => [below, limit, limit, above],
+        3 => [below, limit, above, above],
+        _ => [0, 0, 65535, 65535],
+    }
+}
+
+/// An image as a night begins with: some Applications, limits, thresholds in
+/// order, so that start takes it.
 fn make_image(rng: &mut Rng, wild: bool) -> [u8; IMAGE_LEN] {
     let mut image = [0u8; IMAGE_LEN];
     if rng.percent(40) {
@@ -1010,15 +1093,14 @@ fn make_image(rng: &mut Rng, wild: bool) -> [u8; IMAGE_LEN] {
     }
     image[P01 + 153] = rng.pick(&[0xFF, 0xF5, 0x73, 0x3F, 0x00, 0xF9]);
     image[P01 + 154] = rng.pick(&[0xFF, 0x77, 0x52, 0x25, 0x00, 0x7F]);
-    let levels: [u16; 4] = match rng.below(4) {
-        0 => [20000, 1000, 15000, 1500],
-        1 => [0x1234, 0x0102, 0x1200, 0x0201],
-        2 => [0, 65535, 0, 65535],
+    let mut rising = match rng.below(4) {
+        0 => [1000, 1500, 15000, 20000],
+        1 => [0x0102, 0x0201, 0x1200, 0x1234],
+        2 => level_limits(rng.clone()),
         _ => [rng.next() as u16, rng.next() as u16, rng.next() as u16, rng.next() as u16],
     };
-    for (which, level) in levels.iter().enumerate() {
-        image[P02 + 192 + 2 * which..][..2].copy_from_slice(&level.to_be_bytes());
-    }
+    rising.sort_unstable();
+    put_limits(&mut image, rising);
     image
 }
 
@@ -1568,6 +1650,9 @@ fn night_length(rng: &mut Rng, index: usize) -> usize {
     }
 }
 
+/// One night in so many has its limits back to front.
+const REFUSED_EVERY: usize = 40;
+
 // ---- damaged files ----
 
 /// Damaged files by kind of damage: every listed one first, then random ones.
@@ -1592,6 +1677,11 @@ impl Damage {
         let whole = self.night(20);
         let flat = |mut file: Vec<u8>| {
             file[16 + 2] |= 0x80;
+            file
+        };
+        let limited = |file: &[u8], rising: [u16; 4]| {
+            let mut file = file.to_vec();
+            put_limits(&mut file[16..784], rising);
             file
         };
         let with = |file: &[u8], place: usize, byte: u8| {
@@ -1680,6 +1770,26 @@ impl Damage {
         list.push(("flat and malformed", flat(whole[..whole.len() - 1].to_vec())));
         list.push(("flat and malformed", flat([&whole[..], &[0]].concat())));
         list.push(("flat and malformed", flat(one_more)));
+
+        // Each comparison of limits by 1, low byte first told apart, and the equal neighbours.
+        let usual = [1000, 1500, 15000, 20000];
+        for which in 0..3 {
+            let turned = limited(&whole, turned_round(usual, which));
+            list.push(("back to front", turned.clone()));
+            list.push(("back to front", limited(&none, turned_round([0xFF; 4], which))));
+            list.push(("back to front and flat", flat(turned.clone())));
+            list.push(("back to front and malformed", with(&turned, 784, 0)));
+            list.push(("back to front and malformed", turned[..turned.len() - 1].to_vec()));
+            list.push(("back to front, flat and malformed", flat(with(&turned, 784 + 239, 1))));
+            let mut level = usual;
+            level[which] = level[which + 1];
+            list.push(("limits equal, whole", limited(&whole, level)));
+        }
+        list.push(("back to front", limited(&whole, turned_round(usual, 3))));
+        list.push(("back to front", limited(&whole, [65535, 65535, 65535, 0])));
+        list.push(("back to front", limited(&whole, [65535, 0, 0, 0])));
+        list.push(("limits equal, whole", limited(&whole, [0; 4])));
+        list.push(("limits equal, whole", limited(&whole, [65535; 4])));
         self.listed = list;
         self.listed.reverse();
     }
@@ -1886,6 +1996,11 @@ fn make_sound_state(rng: &mut Rng) -> State {
     for byte in image[P10 + 128..].iter_mut() {
         *byte = rng.byte();
     }
+    // Nor does it say anything of the limits' order: only start asks.
+    if rng.percent(30) {
+        let rising = limits(&image);
+        put_limits(&mut image, turned_round(rising, rng.below(4)));
+    }
     image[BANK_SELECT] = rng.pick(&[0, 0, 0, 3]);
     image[PAGE_SELECT] = rng.pick(&[0x10, 0x11, 0x10, 0x11, 0x02, 0x42]);
     let mut state = State { image, lanes: [LaneRecord::IDLE; LANES] };
@@ -2085,8 +2200,18 @@ fn run(arguments: &[String]) -> Result<(), String> {
             let mut output = options.output()?;
             for index in 0..options.count {
                 let length = night_length(&mut rng, index);
-                let made = make_night(&mut rng, length, true, &mut coverage);
-                output.put(index, &night_file(&made.image, &made.events)).map_err(failed)?;
+                // A refused night's events are never answered, so they cover nothing.
+                let refused = index % REFUSED_EVERY == REFUSED_EVERY - 1;
+                let mut unanswered = Coverage::default();
+                let covers = if refused { &mut unanswered } else { &mut coverage };
+                let mut made = make_night(&mut rng, length, true, covers);
+                if refused {
+                    let rising = limits(&made.image);
+                    put_limits(&mut made.image, turned_round(rising, index / REFUSED_EVERY % 4));
+                }
+                let file = night_file(&made.image, &made.events);
+                coverage.look_at_start(&made.image, night::check(&file).err().unwrap_or(0));
+                output.put(index, &file).map_err(failed)?;
             }
             output.finish().map_err(failed)?;
             if options.count > 0 {
@@ -2100,22 +2225,36 @@ fn run(arguments: &[String]) -> Result<(), String> {
             let mut output = options.output()?;
             let mut damage = Damage::new(&mut rng);
             let listed = damage.listed.len();
-            let mut kinds: BTreeMap<&'static str, [u64; 3]> = BTreeMap::new();
+            let mut kinds: BTreeMap<&'static str, [u64; 4]> = BTreeMap::new();
             for index in 0..options.count {
                 let (kind, file) = damage.next();
                 let column = match night::check(&file) {
                     Err(9) => 0,
-                    Err(_) => 1,
-                    Ok(_) => 2,
+                    Err(2) => 1,
+                    Err(_) => 2,
+                    Ok(_) => 3,
                 };
-                kinds.entry(kind).or_insert([0; 3])[column] += 1;
+                // What the files listed with an image of a kind must give.
+                let wanted = match kind {
+                    "flat and malformed" | "back to front and malformed"
+                    | "back to front, flat and malformed" => 0,
+                    "flat image" | "back to front and flat" => 1,
+                    "back to front" => 2,
+                    "whole" | "longest, whole" | "limits equal, whole" => 3,
+                    _ => column,
+                };
+                if column != wanted {
+                    return Err(format!("file {} ({}) is not answered as it must be", index, kind));
+                }
+                kinds.entry(kind).or_insert([0; 4])[column] += 1;
                 output.put(index, &file).map_err(failed)?;
             }
             output.finish().map_err(failed)?;
             let mut report = options.report();
-            writeln!(report, "    bad 9    bad 2   replays").map_err(failed)?;
-            for (kind, [malformed, flat, whole]) in &kinds {
-                writeln!(report, "{:9}{:9}{:10}  {}", malformed, flat, whole, kind).map_err(failed)?;
+            writeln!(report, "    bad 9    bad 2   bad 10   replays").map_err(failed)?;
+            for (kind, [malformed, flat, turned, whole]) in &kinds {
+                writeln!(report, "{:9}{:9}{:9}{:10}  {}", malformed, flat, turned, whole, kind)
+                    .map_err(failed)?;
             }
             if options.count > 0 && options.count < listed {
                 return Err(format!("{} files do not hold all {} listed kinds of damage", options.count, listed));

@@ -20,6 +20,21 @@ fn usual_image() -> [u8; IMAGE_LEN] {
     image
 }
 
+/// The image with these limits of received power, in rising order.
+fn with_limits(
+    mut image: [u8; IMAGE_LEN],
+    low_alarm: u16,
+    low_warning: u16,
+    high_warning: u16,
+    high_alarm: u16,
+) -> [u8; IMAGE_LEN] {
+    let in_memory = [high_alarm, low_alarm, high_warning, low_warning];
+    for (which, limit) in in_memory.iter().enumerate() {
+        image[P02 + 192 + 2 * which..][..2].copy_from_slice(&limit.to_be_bytes());
+    }
+    image
+}
+
 impl Bench {
     fn of(image: [u8; IMAGE_LEN]) -> Bench {
         let mut bench = Bench { image, lanes: [LaneRecord::IDLE; LANES] };
@@ -161,9 +176,7 @@ fn a_path_of_application_fifteen_goes_its_way() {
 
 #[test]
 fn low_alarm_is_strict_and_high_byte_first() {
-    let mut image = usual_image();
-    image[P02 + 194..P02 + 196].copy_from_slice(&1000u16.to_be_bytes());
-    let mut bench = Bench::of(image);
+    let mut bench = Bench::of(with_limits(usual_image(), 1000, 1000, 1000, 1000));
     bench.event(Event::Sample { lane: 5, value: 1000 });
     assert_eq!(bench.image[RX_POWER_LOW_ALARM_FLAG], 0);
     bench.event(Event::Sample { lane: 5, value: 999 });
@@ -348,6 +361,36 @@ fn refusals_in_their_order() {
 }
 
 #[test]
+fn limits_back_to_front_are_refused_at_start_alone() {
+    let answer = |low_alarm, low_warning, high_warning, high_alarm| {
+        let limits = with_limits(usual_image(), low_alarm, low_warning, high_warning, high_alarm);
+        let (mut image, mut lanes) = (limits, [LaneRecord::IDLE; LANES]);
+        let answer = start(&mut image, &mut lanes);
+        assert!(answer == 0 || image == limits, "a refused start changed the image");
+        answer
+    };
+    // Both sides of each of the three comparisons, the other two far apart.
+    assert_eq!([answer(501, 500, 900, 999), answer(500, 500, 900, 999)], [10, 0]);
+    assert_eq!([answer(100, 601, 600, 999), answer(100, 600, 600, 999)], [10, 0]);
+    assert_eq!([answer(100, 200, 701, 700), answer(100, 200, 700, 700)], [10, 0]);
+    assert_eq!([answer(0, 0, 0, 0), answer(1000, 1000, 1000, 1000)], [0, 0]);
+    assert_eq!([answer(65535, 65535, 65535, 65535), answer(0, 0, 65535, 65535)], [0, 0]);
+    // Low byte first, 00ffh and 0100h would stand the other way round.
+    assert_eq!([answer(0x00FF, 0x0100, 0x01FF, 0x0200), answer(0x0100, 0x00FF, 900, 999)], [0, 10]);
+    // Asked after 1 and 2, and of no other call.
+    let mut lanes = [LaneRecord::IDLE; LANES];
+    let mut image = with_limits(usual_image(), 65535, 65535, 0, 0);
+    assert_eq!(start(&mut image[..767], &mut lanes), 1);
+    image[2] = 0x80;
+    assert_eq!(start(&mut image, &mut lanes), 2);
+    let mut bench = Bench::new();
+    bench.image = with_limits(bench.image, 3, 2, 1, 0);
+    assert_eq!(bench.event(Event::Sample { lane: 0, value: 2 }).answer, 0);
+    assert_eq!(bench.image[RX_POWER_HIGH_ALARM_FLAG..=RX_POWER_LOW_WARNING_FLAG], [1, 1, 1, 0]);
+    assert_eq!(desk_list(&mut bench.image, &mut bench.lanes, &[], &mut []), 0);
+}
+
+#[test]
 fn soundness_looks_at_odd_records_too() {
     let bench = {
         let mut bench = Bench::new();
@@ -449,11 +492,15 @@ fn the_example_prints_as_the_paper_says() {
 }
 
 #[test]
-fn malformed_comes_before_flat() {
+fn malformed_comes_before_flat_and_flat_before_back_to_front() {
     let mut file = example();
+    file[16 + P02 + 195] = 1;
+    assert_eq!(night::replay(&file), b"bad 10\n");
     file[16 + 2] = 0x80;
     assert_eq!(night::replay(&file), b"bad 2\n");
     file[784] = 7;
+    assert_eq!(night::replay(&file), b"bad 9\n");
+    file[16 + 2] = 0;
     assert_eq!(night::replay(&file), b"bad 9\n");
     assert_eq!(night::replay(&[]), b"bad 9\n");
     let mut none = example();

@@ -164,14 +164,16 @@ impl Descriptor {
 }
 
 /// Puts the image into its start state and makes all lanes idle. A refusal
-/// leaves the image alone; the lanes are idle all the same.
+/// (1, 2 or 10) leaves the image alone; the lanes are idle all the same.
 pub fn start(image: &mut [u8], lanes: &mut [LaneRecord; LANES]) -> u8 {
     *lanes = [LaneRecord::IDLE; LANES];
-    if image.len() != IMAGE_LEN {
-        return answer::IMAGE_LENGTH;
-    }
-    if image[CHARACTERISTICS] & FLAT_MEMORY != 0 {
-        return answer::FLAT;
+    let image = match <&mut [u8; IMAGE_LEN]>::try_from(image) {
+        Ok(image) => image,
+        Err(_) => return answer::IMAGE_LENGTH,
+    };
+    let refusal = start_refusal(image);
+    if refusal != answer::DONE {
+        return refusal;
     }
     image[3..39].fill(0);
     image[41..85].fill(0);
@@ -180,6 +182,36 @@ pub fn start(image: &mut [u8], lanes: &mut [LaneRecord; LANES]) -> u8 {
     image[MODULE_STATE] = MODULE_READY;
     image[DP_STATE..DP_STATE + 4].fill(0x11);
     answer::DONE
+}
+
+/// What start has against an image of the right length, flat memory first;
+/// 0 if nothing.
+pub fn start_refusal(image: &[u8; IMAGE_LEN]) -> u8 {
+    if image[CHARACTERISTICS] & FLAT_MEMORY != 0 {
+        answer::FLAT
+    } else if back_to_front(image) {
+        answer::BACK_TO_FRONT
+    } else {
+        answer::DONE
+    }
+}
+
+/// Whether the limits of received power do not rise, or stay level, from low
+/// alarm over low and high warning to high alarm. Only start asks.
+fn back_to_front(image: &[u8; IMAGE_LEN]) -> bool {
+    let rising = [
+        u16_at(image, RX_POWER_LOW_ALARM),
+        u16_at(image, RX_POWER_LOW_WARNING),
+        u16_at(image, RX_POWER_HIGH_WARNING),
+        u16_at(image, RX_POWER_HIGH_ALARM),
+    ];
+    rising.windows(2).any(|pair| pair[0] > pair[1])
+}
+
+/// A U16 of the image, high byte first.
+#[inline(always)]
+fn u16_at(image: &[u8; IMAGE_LEN], place: usize) -> u16 {
+    u16::from_be_bytes([image[place], image[place + 1]])
 }
 
 /// One event with every question asked: length, flat memory and soundness
@@ -360,11 +392,6 @@ impl<'a> Module<'a> {
         let mut bytes = [0u8; 4];
         bytes.copy_from_slice(&self.image[place..place + 4]);
         u32::from_le_bytes(bytes)
-    }
-
-    #[inline(always)]
-    fn u16_at(&self, place: usize) -> u16 {
-        u16::from_be_bytes([self.image[place], self.image[place + 1]])
     }
 
     #[inline(always)]
@@ -899,10 +926,10 @@ impl<'a> Module<'a> {
         }
         let place = RX_POWER + 2 * (lane & 7) as usize;
         self.image[place..place + 2].copy_from_slice(&value.to_be_bytes());
-        let above_alarm = value > self.u16_at(RX_POWER_HIGH_ALARM);
-        let below_alarm = value < self.u16_at(RX_POWER_LOW_ALARM);
-        let above_warning = value > self.u16_at(RX_POWER_HIGH_WARNING);
-        let below_warning = value < self.u16_at(RX_POWER_LOW_WARNING);
+        let above_alarm = value > u16_at(self.image, RX_POWER_HIGH_ALARM);
+        let below_alarm = value < u16_at(self.image, RX_POWER_LOW_ALARM);
+        let above_warning = value > u16_at(self.image, RX_POWER_HIGH_WARNING);
+        let below_warning = value < u16_at(self.image, RX_POWER_LOW_WARNING);
         self.image[RX_POWER_HIGH_ALARM_FLAG] |= (above_alarm as u8) << lane;
         self.image[RX_POWER_LOW_ALARM_FLAG] |= (below_alarm as u8) << lane;
         self.image[RX_POWER_HIGH_WARNING_FLAG] |= (above_warning as u8) << lane;

@@ -30,7 +30,8 @@ pub struct Night<'a> {
 }
 
 /// Checks the whole file. The error is the number of the only line to print:
-/// 9 for a malformed file, 2 for a well-formed one with a flat image.
+/// 9 for a malformed file, what start answers (2 or 10) for a well-formed one
+/// whose image it refuses.
 pub fn check(file: &[u8]) -> Result<Night<'_>, u8> {
     let malformed = Err(answer::MALFORMED);
     if file.len() < RECORDS_AT || file.len() > MAX_FILE {
@@ -56,10 +57,10 @@ pub fn check(file: &[u8]) -> Result<Night<'_>, u8> {
         Ok(image) => image,
         Err(_) => return malformed,
     };
-    if image[CHARACTERISTICS] & FLAT_MEMORY != 0 {
-        return Err(answer::FLAT);
+    match start_refusal(image) {
+        answer::DONE => Ok(Night { image, records }),
+        refusal => Err(refusal),
     }
-    Ok(Night { image, records })
 }
 
 /// How many bytes a record of each kind uses; a write's data come on top.

@@ -143,6 +143,7 @@ pub mod answer {
     pub const BUSY: u8 = 7;
     pub const NO_SUCH_PLACE: u8 = 8;
     pub const MALFORMED: u8 = 9;
+    pub const BACK_TO_FRONT: u8 = 10;
 }
 
 /// Where the descriptor of an AppSel of 1 to 15 begins.

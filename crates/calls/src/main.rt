@@ -1,5 +1,5 @@
-// Calls that no night can show: answers 1, 3 and 5, an unsound state for each of (a) to (e), buffer bytes beyond a read's count, a trigger's byte
-// that a lent image holds, the lanes to be commissioned, a rejection's record, and a path in DPTxTurnOn with something pending.
+// Calls that no night can show: answers 1, 3 and 5, what a start answered 10 leaves, limits back to front in a lent image, an unsound state for each of
+// (a) to (e), buffer bytes beyond a read's count, a trigger's byte that a lent image holds, the lanes to be commissioned, a rejection's record, and a path in DPTxTurnOn with something pending.
 use libc::STDOUT_FILENO;
 use model::answer::Left;
 use model::lane::LaneRecord;
@@ -118,6 +118,42 @@ fn set(image: &mut [u8; 768], at: usize, v: u8) {
     if at < 768 {
         image[at] = v;
     }
+}
+
+// Answer 10: one limit after the other set to 1, of low alarm, low warning, high warning and high alarm. A refused start leaves lower 3.
+fn start_with_1(image: &mut [u8; 768], limit: usize) -> Left {
+    set(image, limit, 1);
+    registers::start(image)
+}
+
+fn back_to_front() {
+    let mut image = [0u8; 768];
+    set(&mut image, 3, 0x55);
+    say_answer(
+        b"start, low alarm above low warning",
+        start_with_1(&mut image, 451),
+    );
+    say_answer(
+        b"start, low warning above high warning",
+        start_with_1(&mut image, 455),
+    );
+    say_answer(
+        b"start, high warning above high alarm",
+        start_with_1(&mut image, 453),
+    );
+    say(b"lower 3 holds", image[3]);
+    say_answer(b"start, limits equal", start_with_1(&mut image, 449));
+    say(b"lower 3 holds", image[3]);
+}
+
+// Only start asks: a sample above the high alarm and below the low one.
+fn back_to_front_when_lent() {
+    let mut image = [0u8; 768];
+    let w = start(&mut image);
+    set(&mut image, 451, 9);
+    say_answer(b"sample, low alarm above high alarm", sample(&mut image, w));
+    say(b"11h:149 holds", image[661]);
+    say(b"11h:150 holds", image[662]);
 }
 
 // Answer 3: a state that breaks one condition.
@@ -272,6 +308,8 @@ fn turn_on_with_pending() {
 fn main() {
     lengths();
     length_of_a_call();
+    back_to_front();
+    back_to_front_when_lent();
     unsound();
     unsound_at_rest();
     short_buffer();

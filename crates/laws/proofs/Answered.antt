@@ -24,10 +24,10 @@ use Rattle.model.specs.declared.answer.Answer.the-variants.{Done}
 use Rattle.model.specs.declared.event.Call.{Call}
 use Rattle.model.specs.declared.event.Call.the-variants.{Write, Read, Work, Hardware, Condition, Sample}
 use Rattle.model.specs.declared.event.Event.{Event}
-use Rattle.laws.specs.Asked.{Asked, start, call, list, outcomeOf, givenState, holds, order, FirstAt, NoneHolds, isUnsound, badAccess, badPlace, shortRead, busyCall, idleCall, ofEvent, shortBuffer}
+use Rattle.laws.specs.Asked.{Asked, start, call, list, outcomeOf, givenState, holds, order, FirstAt, NoneHolds, turnedLimits, isUnsound, badAccess, badPlace, shortRead, busyCall, idleCall, ofEvent, shortBuffer}
 
 -- the order by its numbers
-pub order-numbers : map number order ≡ 1 ∷ 2 ∷ 3 ∷ 4 ∷ 8 ∷ 5 ∷ 7 ∷ 6 ∷ []
+pub order-numbers : map number order ≡ 1 ∷ 2 ∷ 10 ∷ 3 ∷ 4 ∷ 8 ∷ 5 ∷ 7 ∷ 6 ∷ []
 order-numbers = refl
 
 -- ---- the first of a list of answers whose condition holds
@@ -76,7 +76,7 @@ module _ (h : Answer → Bool) where
 -- ---- the lists of the model are the table, in its order
 asked-call : (s : State) (buffer bytes : List ℕ) (c : Call)
     → firstOf (entryRefusals s ++ eventRefusals (length buffer) s c) ≡ first (holds (call s buffer (record { call = c; bytes = bytes }))) order
-unfolding first firstOf pick imageRefusals entryRefusals eventRefusals givenState holds isUnsound badAccess badPlace shortRead busyCall idleCall ofEvent shortBuffer
+unfolding first firstOf pick imageRefusals entryRefusals eventRefusals givenState holds turnedLimits isUnsound badAccess badPlace shortRead busyCall idleCall ofEvent shortBuffer
 asked-call s buffer bytes (Write address count) = refl
 asked-call s buffer bytes (Read address count) = refl
 asked-call s buffer bytes (Work l) = refl
@@ -109,7 +109,7 @@ list-answer s answers es = split (isDone (firstOf (listRefusals (length answers)
 
 -- the answer is the first in the order whose condition holds
 first-asked : (q : Asked) → outcomeOf q .answer ≡ first (holds q) order
-unfolding outcomeOf startOutcome startBy first firstOf pick imageRefusals startRefusals entryRefusals listRefusals givenState holds isUnsound ofEvent shortBuffer
+unfolding outcomeOf startOutcome startBy first firstOf pick imageRefusals startRefusals entryRefusals listRefusals givenState holds turnedLimits isUnsound ofEvent shortBuffer
 first-asked (start x) = refl
 first-asked (call s buffer e) = call-answer s buffer e ∙ asked-call s buffer (e .bytes) (e .call)
 first-asked (list s answers es) = list-answer s answers es

@@ -11,10 +11,10 @@ use Rattle.model.specs.Triggers.{State}
 use Rattle.model.specs.Flags.{isConditionFlag}
 use Rattle.model.specs.Access.{isBadAccess, writeLimit, readLimit}
 use Rattle.model.specs.Sound.{isSound}
-use Rattle.model.specs.Refusals.{isFlat, wrongLength, noSuchLane, isBusy, isUnused}
+use Rattle.model.specs.Refusals.{isFlat, isBackToFront, wrongLength, noSuchLane, isBusy, isUnused}
 use Rattle.model.specs.Outcome.{Outcome, state, startOutcome, callOutcome, listOutcome}
 use Rattle.model.specs.declared.answer.Answer.{Answer}
-use Rattle.model.specs.declared.answer.Answer.the-variants.{Done, WrongLength, FlatMemory, Unsound, BadAccess, ShortBuffer, NothingToDo, Busy, NoSuchPlace, Malformed}
+use Rattle.model.specs.declared.answer.Answer.the-variants.{Done, WrongLength, FlatMemory, Unsound, BadAccess, ShortBuffer, NothingToDo, Busy, NoSuchPlace, Malformed, BackToFront}
 use Rattle.model.specs.declared.event.Call.{Call}
 use Rattle.model.specs.declared.event.Call.the-variants.{Write, Read, Work, Hardware, Condition, Sample}
 use Rattle.model.specs.declared.event.Event.{Event}
@@ -44,6 +44,12 @@ givenBuffer (call s buffer e) = buffer
 givenBuffer (list s answers es) = answers
 
 -- ---- the refusal list, number by number
+
+-- 10: the limits of received power are back to front (asked at start alone)
+unfoldable pub turnedLimits : Asked → Bool
+turnedLimits (start x) = isBackToFront x
+turnedLimits (call s buffer e) = false
+turnedLimits (list s answers es) = false
 
 -- 3: state is not sound (not asked at start)
 unfoldable pub isUnsound : Asked → Bool
@@ -120,14 +126,15 @@ holds q ShortBuffer = shortBuffer q
 holds q Busy = ofEvent (λ s buffer c. busyCall s c) q
 holds q NothingToDo = ofEvent (λ s buffer c. idleCall s c) q
 holds q Malformed = false
+holds q BackToFront = turnedLimits q
 
 -- the order in which they are checked
 abbrev pub order : List Answer
-order = WrongLength ∷ FlatMemory ∷ Unsound ∷ BadAccess ∷ NoSuchPlace ∷ ShortBuffer ∷ Busy ∷ NothingToDo ∷ []
+order = WrongLength ∷ FlatMemory ∷ BackToFront ∷ Unsound ∷ BadAccess ∷ NoSuchPlace ∷ ShortBuffer ∷ Busy ∷ NothingToDo ∷ []
 
 -- where in it a buffer is judged
 abbrev pub bufferTurn : ℕ
-bufferTurn = 5
+bufferTurn = 6
 
 -- of a list of answers the k-th is the first whose condition holds
 pub record FirstAt (h : Answer → Bool) (answers : List Answer) (k : ℕ) : Type 0 where

@@ -1,9 +1,9 @@
--- The answers and their numbers (01 "When the desk says no").
+-- The answers and their numbers (01 "When the desk says no", Req 08).
 use Prim.Native.Nat.{ℕ}
 use mathlib.Core.Bool.{Bool, true, false}
 use lib.Dec.{eqb}
 use Rattle.model.specs.declared.answer.Answer.{Answer}
-use Rattle.model.specs.declared.answer.Answer.the-variants.{Done, WrongLength, FlatMemory, Unsound, BadAccess, ShortBuffer, NothingToDo, Busy, NoSuchPlace, Malformed}
+use Rattle.model.specs.declared.answer.Answer.the-variants.{Done, WrongLength, FlatMemory, Unsound, BadAccess, ShortBuffer, NothingToDo, Busy, NoSuchPlace, Malformed, BackToFront}
 
 abbrev pub number : Answer → ℕ
 number Done = 0
@@ -16,6 +16,7 @@ number NothingToDo = 6
 number Busy = 7
 number NoSuchPlace = 8
 number Malformed = 9
+number BackToFront = 10
 
 unfoldable pub isDone : Answer → Bool
 isDone a = eqb (number a) 0

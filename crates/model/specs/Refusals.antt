@@ -1,4 +1,4 @@
--- The refusals of every call, in their order 1, 2, 3, 4, 8, 5, 7, 6 (01 "When the desk says no").
+-- The refusals of every call, in their order 1, 2, 10, 3, 4, 8, 5, 7, 6 (01 "When the desk says no", Req 08).
 use Prim.Native.Nat.{ℕ}
 use mathlib.Core.Bool.{Bool, not}
 use mathlib.Core.List.{List, [], _∷_, _++_}
@@ -7,15 +7,15 @@ use lib.ListN.{length}
 use Rattle.bits.specs.Choice.{pick, either}
 use Rattle.bits.specs.Place.{get}
 use Rattle.bits.specs.Sets.{has}
-use Rattle.model.specs.Map.{Image, imageLength, laneCount, flatBit, activeSet}
+use Rattle.model.specs.Map.{Image, imageLength, laneCount, flatBit, activeSet, highAlarm, lowAlarm, highWarning, lowWarning}
 use Rattle.model.specs.Lanes.{stageAt, isInProgress, anyInProgress}
 use Rattle.model.specs.View.{settingsOf, of, isUsed, pathOf}
 use Rattle.model.specs.Triggers.{State}
-use Rattle.model.specs.Flags.{isConditionFlag}
+use Rattle.model.specs.Flags.{isConditionFlag, power}
 use Rattle.model.specs.Access.{isBadAccess, writeLimit, readLimit}
 use Rattle.model.specs.Sound.{isSound}
 use Rattle.model.specs.declared.answer.Answer.{Answer}
-use Rattle.model.specs.declared.answer.Answer.the-variants.{Done, WrongLength, FlatMemory, Unsound, BadAccess, ShortBuffer, NothingToDo, Busy, NoSuchPlace}
+use Rattle.model.specs.declared.answer.Answer.the-variants.{Done, WrongLength, FlatMemory, Unsound, BadAccess, ShortBuffer, NothingToDo, Busy, NoSuchPlace, BackToFront}
 use Rattle.model.specs.declared.event.Call.{Call}
 use Rattle.model.specs.declared.event.Call.the-variants.{Write, Read, Work, Hardware, Condition, Sample}
 
@@ -35,6 +35,12 @@ firstOf (r ∷ rs) = pick (r .when) (r .answer) (firstOf rs)
 
 unfoldable pub isFlat : Image → Bool
 isFlat x = eqb (get x flatBit) 1
+
+-- received power: low alarm above low warning, low warning above high warning, or high warning above high alarm (Req 08)
+unfoldable pub isBackToFront : Image → Bool
+isBackToFront x =
+    either (ltb (power x lowWarning) (power x lowAlarm))
+    (either (ltb (power x highWarning) (power x lowWarning)) (ltb (power x highAlarm) (power x highWarning)))
 
 unfoldable pub wrongLength : Image → Bool
 wrongLength x = not (eqb (length x) imageLength)
@@ -57,8 +63,9 @@ isUnused s l = not (isUsed (of (settingsOf activeSet (s .image)) l))
 unfoldable pub imageRefusals : Image → List Refusal
 imageRefusals x = refuse WrongLength (wrongLength x) ∷ refuse FlatMemory (isFlat x) ∷ []
 
+-- asked of an image at start: its limits as well
 unfoldable pub startRefusals : Image → List Refusal
-startRefusals x = imageRefusals x
+startRefusals x = imageRefusals x ++ (refuse BackToFront (isBackToFront x) ∷ [])
 
 -- asked once of a call, or once of a whole list of events
 unfoldable pub entryRefusals : State → List Refusal

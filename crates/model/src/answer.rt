@@ -15,6 +15,7 @@ pub enum Answer {
     Busy,
     NoSuchPlace,
     Malformed,
+    BackToFront,
 }
 
 impl Answer {
@@ -33,6 +34,7 @@ impl Answer {
             Answer::Busy => 7,
             Answer::NoSuchPlace => 8,
             Answer::Malformed => 9,
+            Answer::BackToFront => 10,
         }
     }
 }

@@ -21,7 +21,7 @@ use Rattle.model.specs.Outcome.{laidOver, listRoom}
 use Rattle.model.specs.Text.{line}
 use Rattle.model.specs.Lanes.{stageAt}
 use Rattle.model.specs.declared.answer.Answer.{Answer}
-use Rattle.model.specs.declared.answer.Answer.the-variants.{Done, WrongLength, FlatMemory, Unsound, BadAccess, ShortBuffer, NothingToDo, Busy, NoSuchPlace, Malformed}
+use Rattle.model.specs.declared.answer.Answer.the-variants.{Done, WrongLength, FlatMemory, Unsound, BadAccess, ShortBuffer, NothingToDo, Busy, NoSuchPlace, Malformed, BackToFront}
 use Rattle.model.specs.declared.event.Call.{Call}
 use Rattle.model.specs.declared.event.Call.the-variants.{Write, Read, Work, Hardware, Condition, Sample}
 use Rattle.model.specs.declared.event.Event.{Event}
@@ -137,6 +137,7 @@ number-lt NothingToDo = omega arith
 number-lt Busy = omega arith
 number-lt NoSuchPlace = omega arith
 number-lt Malformed = omega arith
+number-lt BackToFront = omega arith
 
 -- the line of a step, from what it left: its answer's number, and the first bytes of its buffer
 module _ (s : State) (e : Event) (a n : ℕ) (buffer left : List ℕ) (buffered : left ≡ laidOver (step early listRoom s e .bytes) buffer)

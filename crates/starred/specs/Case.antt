@@ -1,19 +1,23 @@
--- What a worked case is: an image, its events, and the lines that must be seen (01 "Both sides of each line").
+-- What a worked case is: an image, its events, and the lines that must be seen, or the bad line of an image that start refuses (01 "Both sides of each line").
 use Prim.Native.Nat.{ℕ, suc}
 use Prim.Native.String.{String}
 use mathlib.Core.Bool.{Bool, true, false}
 use mathlib.Core.List.{List, [], _∷_, _++_}
 use lib.Dec.{eqb}
 use lib.ListN.{length, set}
-use Rattle.bits.specs.Choice.{both}
+use Rattle.bits.specs.Choice.{pick, both}
 use Rattle.bits.specs.Loop.{tab}
-use Rattle.model.specs.Map.{Image, imageLength}
+use Rattle.bits.specs.Word.{putWord}
+use Rattle.model.specs.Map.{Image, imageLength, highAlarm, lowAlarm, highWarning, lowWarning}
+use Rattle.model.specs.Answers.{number, isDone}
 use Rattle.model.specs.Work.{early}
 use Rattle.model.specs.Start.{started}
+use Rattle.model.specs.Refusals.{firstOf, startRefusals}
 use Rattle.model.specs.Step.{event, run}
 use Rattle.model.specs.Outcome.{listRoom}
-use Rattle.model.specs.Text.{ascii, newline}
+use Rattle.model.specs.Text.{ascii, newline, badLine}
 use Rattle.model.specs.Night.{linesFrom}
+use Rattle.model.specs.declared.answer.Answer.{Answer}
 use Rattle.model.specs.declared.event.Call.the-variants.{Write, Read, Work, Hardware, Condition, Sample}
 use Rattle.model.specs.declared.event.Event.{Event}
 
@@ -32,9 +36,13 @@ unfoldable pub linesOf : List String → List ℕ
 linesOf [] = []
 linesOf (s ∷ ss) = ascii s ++ (newline ∷ linesOf ss)
 
+-- what a case shows, by what start answers to its image
+unfoldable pub shownBy : Answer → Case → List ℕ
+shownBy a c = pick (isDone a) (linesFrom 0 (run early listRoom (started (c .image)) (c .events))) (badLine (number a))
+
 -- the case is as it should be
 unfoldable pub holds : Case → Bool
-holds c = sameBytes (linesFrom 0 (run early listRoom (started (c .image)) (c .events))) (linesOf (c .seen))
+holds c = sameBytes (shownBy (firstOf (startRefusals (c .image))) c) (linesOf (c .seen))
 
 unfoldable pub allHold : List Case → Bool
 allHold [] = true
@@ -53,6 +61,11 @@ holding i (v ∷ vs) x = holding (suc i) vs (set x i v)
 -- Application 1 of 01's example: 4 host lanes, which may begin on lane 0 or 4
 unfoldable pub fourLanes : Image
 fourLanes = holding 88 (0x44 ∷ 0x11 ∷ []) blank
+
+-- limits of received power: low alarm, low warning, high warning, high alarm
+unfoldable pub limited : ℕ → ℕ → ℕ → ℕ → Image → Image
+limited alarmBelow warningBelow warningAbove alarmAbove x =
+    putWord 2 (putWord 2 (putWord 2 (putWord 2 x lowAlarm alarmBelow) lowWarning warningBelow) highWarning warningAbove) highAlarm alarmAbove
 
 -- ---- events
 

@@ -1,7 +1,6 @@
 -- The starred cases of 01, in its order.
 use mathlib.Core.List.{List, [], _∷_}
-use Rattle.model.specs.Map.{lowAlarm}
-use Rattle.starred.specs.Case.{Case, holding, fourLanes, write, read, work, sample, selectPage, applied}
+use Rattle.starred.specs.Case.{Case, holding, fourLanes, limited, write, read, work, sample, selectPage, applied}
 
 abbrev pub starred : List Case
 starred =
@@ -35,15 +34,15 @@ starred =
       events = applied 145 (0x10 ∷ 0x10 ∷ 0x10 ∷ 0x10 ∷ []) 0x00 0;
       seen = "0 0" ∷ "1 0" ∷ "2 0" ∷ "3 6" ∷ "4 0" ∷ "5 0 00 00 00 00" ∷ [];
     }
-    -- low alarm 1000: sample 1000 leaves its bit in 150 clear
+    -- low alarm 1000, and the other limits with it (Req 08): sample 1000 leaves its bit in 150 clear
     ∷ record {
-      image = holding lowAlarm (0x03 ∷ 0xe8 ∷ []) fourLanes;
+      image = limited 1000 1000 1000 1000 fourLanes;
       events = sample 3 1000 ∷ selectPage 0x11 ∷ read 150 1 ∷ [];
       seen = "0 0" ∷ "1 0" ∷ "2 0 00" ∷ [];
     }
     -- .. and 999 sets it
     ∷ record {
-      image = holding lowAlarm (0x03 ∷ 0xe8 ∷ []) fourLanes;
+      image = limited 1000 1000 1000 1000 fourLanes;
       events = sample 3 999 ∷ selectPage 0x11 ∷ read 150 1 ∷ [];
       seen = "0 0" ∷ "1 0" ∷ "2 0 08" ∷ [];
     }

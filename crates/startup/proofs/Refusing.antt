@@ -6,8 +6,8 @@ use borrow.Author.Tests.{eqb-true, eq-eqb, ne-eqb, not-false}
 use Rattle.bits.proofs.Tests.{split, clash}
 use Rattle.model.specs.Answers.{isDone}
 use Rattle.model.specs.Map.{Image}
-use Rattle.model.specs.Refusals.{firstOf, isFlat, wrongLength, imageRefusals, startRefusals}
-use Rattle.model.specs.declared.answer.Answer.the-variants.{Done, WrongLength, FlatMemory}
+use Rattle.model.specs.Refusals.{firstOf, isFlat, isBackToFront, wrongLength, imageRefusals, startRefusals}
+use Rattle.model.specs.declared.answer.Answer.the-variants.{Done, WrongLength, FlatMemory, BackToFront}
 use Rattle.model.proofs.Refused.{first-here, first-next, first-none}
 
 pub has-length : (x : Image) → length x ≡ 768 → wrongLength x ≡ false
@@ -18,7 +18,7 @@ pub other-length : (x : Image) → (length x ≡ 768 → ⊥) → wrongLength x 
 unfolding wrongLength
 other-length x n = ap not (ne-eqb _ _ n)
 
--- 1, then 2
+-- 1, then 2, then 10
 module _ (x : Image) where
   pub start-length : (length x ≡ 768 → ⊥) → firstOf (startRefusals x) ≡ WrongLength
   unfolding startRefusals imageRefusals
@@ -28,9 +28,13 @@ module _ (x : Image) where
   unfolding startRefusals imageRefusals
   start-flat e f = first-next _ _ _ (has-length x e) ∙ first-here _ _ _ f
 
-  pub start-good : length x ≡ 768 → isFlat x ≡ false → firstOf (startRefusals x) ≡ Done
+  pub start-turned : length x ≡ 768 → isFlat x ≡ false → isBackToFront x ≡ true → firstOf (startRefusals x) ≡ BackToFront
   unfolding startRefusals imageRefusals
-  start-good e f = first-next _ _ _ (has-length x e) ∙ first-next _ _ _ f ∙ first-none
+  start-turned e f b = first-next _ _ _ (has-length x e) ∙ first-next _ _ _ f ∙ first-here _ _ _ b
+
+  pub start-good : length x ≡ 768 → isFlat x ≡ false → isBackToFront x ≡ false → firstOf (startRefusals x) ≡ Done
+  unfolding startRefusals imageRefusals
+  start-good e f b = first-next _ _ _ (has-length x e) ∙ first-next _ _ _ f ∙ first-next _ _ _ b ∙ first-none
 
   -- what start takes has its length
   pub taken-length : isDone (firstOf (startRefusals x)) ≡ true → length x ≡ 768

@@ -1,7 +1,7 @@
 // Start: the images that it refuses, what stays of one that it takes, and what is set.
 ghost use mathlib.Core.Path.{_≡_};
 ghost use lib.ListN.{length};
-ghost use Rattle.model.specs.Refusals.{firstOf, isFlat, startRefusals};
+ghost use Rattle.model.specs.Refusals.{firstOf, isFlat, isBackToFront, startRefusals};
 ghost use Rattle.model.specs.Start.{startValue, started};
 use bits::Place;
 use model::answer::Answer;
@@ -19,6 +19,18 @@ pub fn is_flat(image: &[u8]) -> bool
     bits::get(image, model) == 1
 }
 
+// Whether the limits of received power are back to front: one above the next in the order low alarm, low warning, high warning, high alarm.
+pub fn is_back_to_front(image: &[u8]) -> bool
+    requires { ⌜ length (now image) ≡ 768 ⌝ }
+    ensures { λ r. ⌜ r ≡ isBackToFront (now (image .entry)) ⌝ }
+{
+    let low_alarm = words::word2(image, map::LOW_ALARM);
+    let low_warning = words::word2(image, map::LOW_WARNING);
+    let high_warning = words::word2(image, map::HIGH_WARNING);
+    let high_alarm = words::word2(image, map::HIGH_ALARM);
+    (low_alarm > low_warning) | ((low_warning > high_warning) | (high_warning > high_alarm))
+}
+
 // What start has against an image, or that it takes it.
 pub fn refusal(image: &[u8]) -> Answer
     ensures { λ r. ⌜ r ≡ firstOf (startRefusals (now (image .entry))) ⌝ }
@@ -28,6 +40,9 @@ pub fn refusal(image: &[u8]) -> Answer
     }
     if is_flat(image) {
         return Answer::FlatMemory;
+    }
+    if is_back_to_front(image) {
+        return Answer::BackToFront;
     }
     Answer::Done
 }

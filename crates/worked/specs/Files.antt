@@ -14,7 +14,7 @@ use Rattle.model.specs.Night.{printed}
 use Rattle.model.specs.declared.event.Call.{Call}
 use Rattle.model.specs.declared.event.Call.the-variants.{Write, Read, Work, Hardware, Condition, Sample}
 use Rattle.model.specs.declared.event.Event.{Event}
-use Rattle.starred.specs.Case.{sameBytes, linesOf, blank, holding, work}
+use Rattle.starred.specs.Case.{sameBytes, linesOf, blank, holding, limited, work}
 use Rattle.worked.specs.Worked.{example}
 
 -- the bytes of a record
@@ -66,6 +66,8 @@ files =
     ∷ record { file = fileOf flat (work 0 ∷ []); seen = "bad 2" ∷ [] }
     -- .. in a malformed file: a byte too many
     ∷ record { file = fileOf flat (work 0 ∷ []) ++ (0 ∷ []); seen = "bad 9" ∷ [] }
+    -- limits back to front
+    ∷ record { file = fileOf (limited 4 3 2 1 blank) (work 0 ∷ []); seen = "bad 10" ∷ [] }
     -- nothing at all
     ∷ record { file = []; seen = "bad 9" ∷ [] }
     ∷ []

@@ -5,7 +5,7 @@ use mathlib.Core.List.{List, [], _∷_, _++_}
 use Rattle.bits.specs.Loop.{tab}
 use Rattle.model.specs.Map.{Image, on, page01, highAlarm}
 use Rattle.model.specs.declared.event.Event.{Event}
-use Rattle.starred.specs.Case.{Case, blank, holding, fourLanes, write, read, work, hardware, condition, sample, selectPage, applied}
+use Rattle.starred.specs.Case.{Case, blank, holding, fourLanes, limited, write, read, work, hardware, condition, sample, selectPage, applied}
 
 -- the night of 01's example
 abbrev pub example : Case
@@ -176,4 +176,17 @@ worked =
           ∷ "11 0 00 00 81 00 00 00 00 00 00 00 00 00 00 00 00 80 00 80 00 00" ∷ "12 0 00 65"
           ∷ "13 0 00 00 00 00 00 00 00 00 00 00 00 00 00 00 00 00 00 00 00 00" ∷ "14 0 07" ∷ "15 8" ∷ "16 8" ∷ "17 8" ∷ [];
     }
+    -- Req 08, start: low alarm above low warning is 10, equal is taken
+    ∷ record { image = limited 257 256 900 999 blank; events = read 3 1 ∷ []; seen = "bad 10" ∷ [] }
+    ∷ record { image = limited 256 256 900 999 blank; events = read 3 1 ∷ []; seen = "0 0 07" ∷ [] }
+    -- .. low warning above high warning
+    ∷ record { image = limited 100 512 511 999 blank; events = read 3 1 ∷ []; seen = "bad 10" ∷ [] }
+    ∷ record { image = limited 100 511 511 999 blank; events = read 3 1 ∷ []; seen = "0 0 07" ∷ [] }
+    -- .. high warning above high alarm
+    ∷ record { image = limited 100 200 768 767 blank; events = read 3 1 ∷ []; seen = "bad 10" ∷ [] }
+    ∷ record { image = limited 100 200 767 767 blank; events = read 3 1 ∷ []; seen = "0 0 07" ∷ [] }
+    -- .. all equal, at the top
+    ∷ record { image = limited 65535 65535 65535 65535 blank; events = read 3 1 ∷ []; seen = "0 0 07" ∷ [] }
+    -- .. flat and back to front: 2 comes first
+    ∷ record { image = holding 2 (0x80 ∷ []) (limited 4 3 2 1 blank); events = read 3 1 ∷ []; seen = "bad 2" ∷ [] }
     ∷ []

@@ -1,7 +1,7 @@
 -- `startup::refusal` meets its contract. Assumes nothing.
 use borrow.Author.Needs.{needs}
 use mathlib.Core.Path.{sym, _∙_}
-use Rattle.startup.proofs.Refusing.{start-length, start-flat, start-good}
+use Rattle.startup.proofs.Refusing.{start-length, start-flat, start-turned, start-good}
 use Rattle.startup.proofs.refusal.Statement.{statement}
 use Rattle.startup.proofs.refusal.Tie as tie
 
@@ -14,8 +14,23 @@ is-flat-requires c κs = search needs
 returns-2 : tie.Need-returns-2
 returns-2 c = sym (start-flat _ (c .before .before .if1 .left) (sym (c .before .is-flat .ensures) ∙ c .if2 .taken))
 
+is-back-to-front-requires : tie.Need-is-back-to-front-requires
+is-back-to-front-requires c κs = search needs
+
 returns-3 : tie.Need-returns-3
-returns-3 c = sym (start-good _ (c .before .before .if1 .left) (sym (c .before .is-flat .ensures) ∙ c .if2 .left))
+returns-3 c =
+    sym (start-turned _
+    (c .before .before .before .before .if1 .left)
+    (sym (c .before .before .before .is-flat .ensures) ∙ c .before .before .if2 .left)
+    (sym (c .before .is-back-to-front .ensures) ∙ c .if3 .taken))
+
+returns-4 : tie.Need-returns-4
+returns-4 c =
+    sym (start-good _
+    (c .before .before .before .before .if1 .left)
+    (sym (c .before .before .before .is-flat .ensures) ∙ c .before .before .if2 .left)
+    (sym (c .before .is-back-to-front .ensures) ∙ c .if3 .left))
 
 pub refusal-spec : {M : Type 1} → statement M
-refusal-spec = tie.close (tie.spec returns is-flat-requires returns-2 returns-3)
+refusal-spec =
+    tie.close (tie.spec returns is-flat-requires returns-2 is-back-to-front-requires returns-3 returns-4)
