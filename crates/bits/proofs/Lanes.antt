@@ -1,21 +1,19 @@
 -- Laws of lane fields: where they lie, and that two of them share no bit. Assumes nothing.
 use mathlib.Core.Path.{_≡_, refl}
 use mathlib.Core.Bool.{true}
-use mathlib.Core.List.{List}
 use mathlib.Core.Logic.{inl, inr, _≢_}
-use Prim.Native.Nat.{ℕ, _+_, _*_, _/_, _%_, _^_, _≤_, _<_}
+use Prim.Native.Nat.{ℕ, _+_, _*_, _/_, _%_, _≤_, _<_}
 use native.Mathlib.Nat.{mod-eq-of-lt, mul-le-mul-right}
 use native.Mathlib.Decide.{decLt, ℕ-discrete}
 use native.Mathlib.Omega.{arith}
 use lib.Dec.{eqb, leb, ltb}
-use lib.ListN.{length}
 use borrow.Author.Tests.{leb-true, ltb-true, eqb-true, le-leb, eq-eqb, ne-eqb}
 use Rattle.bits.specs.Choice.{both, implies}
-use Rattle.bits.specs.Place.{get, put, apart}
+use Rattle.bits.specs.Place.{apart}
 use Rattle.bits.specs.Loop.{allBelow}
 use Rattle.bits.specs.Lane.{laneField, allApart}
 use Rattle.bits.proofs.Tests.{both-l, both-r, either-cases, either-i-l, either-i-r, implies-use}
-use Rattle.bits.proofs.Places.{apart-sym, get-lt, get-put}
+use Rattle.bits.proofs.Places.{apart-sym}
 use Rattle.bits.proofs.Loops.{all-at}
 
 pub lane-width : (base w lane : ℕ) → laneField base w lane .width ≡ w
@@ -68,13 +66,3 @@ lane-in base w lane l e = elim (decLt w 9) [
 pub lane-fits : (base w lane n : ℕ) → base + w ≤ n → lane < 8 → 8 % w ≡ 0
     → (laneField base w lane .byte < n) × (laneField base w lane .width + laneField base w lane .shift ≤ 8)
 lane-fits base w lane n f l e = let r = lane-in base w lane l e in (omega arith, rw (lane-width base w lane) (r .2))
-
--- what a lane's field holds, and after a put
-pub lane-lt : (im : List ℕ) (base w lane : ℕ) → get im (laneField base w lane) < 2 ^ w
-unfolding laneField
-lane-lt im base w lane = get-lt im (laneField base w lane)
-
-pub lane-put : (im : List ℕ) (base w lane v : ℕ) → base + w ≤ length im → lane < 8 → 8 % w ≡ 0
-    → get (put im (laneField base w lane) v) (laneField base w lane) ≡ v % 2 ^ w
-unfolding laneField
-lane-put im base w lane v f l e = get-put im (laneField base w lane) v (lane-fits base w lane (length im) f l e .0)

@@ -45,9 +45,6 @@ module _ {ℓ} {A : Type ℓ} (c : ℕ → Bool) (f : ℕ → A → A) where
   pub each-skip {ℓ′} : {B : Type ℓ′} (g : A → B) (n : ℕ) (x : A) → ((k : ℕ) (y : A) → k < n → c k ≡ true → g (f k y) ≡ g y) → g (each c f n x) ≡ g x
   each-skip g n x h = each-ind (λ y. g y ≡ g x) n (λ k y b e r. h k y b e ∙ r) x refl
 
-  pub each-none : (n : ℕ) (x : A) → ((k : ℕ) → k < n → c k ≡ false) → each c f n x ≡ x
-  each-none n x h = each-skip (λ y. y) n x (λ k y b e. absurd (clash e (h k b)))
-
   -- a turn of a loop in code: what it has done below n, and at n
   pub each-begin : (x : A) → x ≡ each c f 0 x
   unfolding each
@@ -111,10 +108,6 @@ module _ {ℓ} {A : Type ℓ} where
   unfolding tab
   tab-ext zero f g h = refl
   tab-ext (suc n) f g h = ap₂ _∷_ (h 0 (suc-le-suc zero-le)) (tab-ext n (λ j. f (suc j)) (λ j. g (suc j)) (λ k l. h (suc k) (suc-le-suc l)))
-
-  -- a list is the table of its elements
-  pub tab-list : (xs : List A) (n : ℕ) (d : A) → length xs ≡ n → tab n (λ k. getD xs k d) ≡ xs
-  tab-list xs n d e = ext-getD d _ xs (length-tab n _ ∙ sym e) (λ k l. tab-at n _ k d (rw length-tab at l))
 
   -- a loop that changes the picked elements, each from what it was
   pub change-loop : (c : ℕ → Bool) (f : ℕ → A → A) (xs : List A) (n : ℕ) (d : A) → length xs ≡ n

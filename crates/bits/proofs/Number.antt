@@ -8,6 +8,7 @@ use native.Mathlib.Omega.{arith}
 use lib.Arith.{digits-lt}
 use lib.Pow.{pow-pos, pow-mono, pow-add, shr-shr, shr-lt, split, high, low, mod-pow-add, mod-mod-pow}
 use lib.Pow as Pow
+use lib.Bits.{bitAnd, and-shr, and-mod}
 use Rattle.bits.specs.Number.{field, withField}
 
 pub got-lt : (x s w : ℕ) → field x s w < 2 ^ w
@@ -40,9 +41,6 @@ module _ (x s w v : ℕ) where
   pub same : field (withField x s w v) s w ≡ v % 2 ^ w
   unfolding field
   same = sym (Pow.field (withField x s w v) w s) ∙ ap (λ n. n / 2 ^ s) upto ∙ high (v % 2 ^ w) s (mod-lt x (pow-pos s))
-
-  pub same-fits : v < 2 ^ w → field (withField x s w v) s w ≡ v
-  same-fits h = same ∙ mod-eq-of-lt h
 
   -- the last put wins
   pub again : (u : ℕ) → withField (withField x s w v) s w u ≡ withField x s w u
@@ -179,3 +177,8 @@ number-ext x y h =
     let n = x + y in
     let e : x % 2 ^ n ≡ y % 2 ^ n = sym (lowest x n) ∙ field-ext x y 0 0 n (λ b l. rw zero-add (h b)) ∙ lowest y n in
     sym (mod-eq-of-lt (pow-above x n (omega arith))) ∙ e ∙ mod-eq-of-lt (pow-above y n (omega arith))
+
+-- a digit of `and`
+pub digit-and : (a b l : ℕ) → field (bitAnd a b) l 1 ≡ bitAnd (field a l 1) (field b l 1)
+unfolding field
+digit-and a b l = rw (and-shr a b l, and-mod (a / 2 ^ l) (b / 2 ^ l) 1)

@@ -1,5 +1,5 @@
 -- What a place of a byte list holds, and the list with the place replaced.
-use Prim.Native.Nat.{ℕ, _+_, _≤_, _<_}
+use Prim.Native.Nat.{ℕ, _+_}
 use mathlib.Core.Bool.{Bool, not}
 use mathlib.Core.List.{List}
 use lib.Dec.{eqb, leb, ltb}

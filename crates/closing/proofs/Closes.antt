@@ -1,15 +1,10 @@
 -- The closing step, put together from what its parts leave. Assumes nothing.
 use mathlib.Core.Path.{_≡_}
 use mathlib.Core.Bool.{Bool}
-use Prim.Native.Nat.{ℕ, _+_}
-use native.Mathlib.Numerals.{add-one}
-use Rattle.bits.specs.Sets.{nextIn}
-use Rattle.model.specs.Map.{Image, laneCount}
+use Prim.Native.Nat.{ℕ}
+use Rattle.model.specs.Map.{Image}
 use Rattle.model.specs.Statuses.{success}
-use Rattle.model.specs.Lanes.{stageAt, heldIn, advanced}
-use Rattle.model.specs.Work.{early, written, withActive, copyLane, copyNext, copyGroup, isRelease, pendingAfter, commissionMask, closed, closedPass, copied}
-use Rattle.model.specs.declared.lane.Settings.{Settings}
-use Rattle.model.specs.declared.lane.Stage.{Stage}
+use Rattle.model.specs.Work.{early, copyGroup, isRelease, pendingAfter, commissionMask, closed, closedPass}
 use Rattle.model.specs.declared.lane.Trigger.{Trigger}
 use Rattle.model.specs.declared.lane.Working.{Working}
 use Rattle.records.specs.Leaves.{given, LeavesState}

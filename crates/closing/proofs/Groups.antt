@@ -1,13 +1,11 @@
 -- Sets of lanes as the closing step tests them. Assumes nothing.
 use mathlib.Core.Path.{_≡_, refl, sym, _∙_}
-use mathlib.Core.Bool.{Bool, true, false, _&&_, _||_}
-use Prim.Native.Nat.{ℕ, _+_, _^_, _≤_, _<_}
-use native.Mathlib.Numerals.{add-one}
+use mathlib.Core.Bool.{Bool, true, false}
+use Prim.Native.Nat.{ℕ, _^_, _≤_, _<_}
 use native.Mathlib.Omega.{arith}
 use native.Mathlib.Decide.{decLt}
-use Rattle.bits.specs.Choice.{pick, both, either}
-use Rattle.bits.specs.Loop.{anyBelow}
-use Rattle.bits.specs.Sets.{has, nextIn}
+use Rattle.bits.specs.Choice.{pick}
+use Rattle.bits.specs.Sets.{nextIn}
 use Rattle.bits.specs.Place.{get}
 use Rattle.model.specs.Map.{Image, stateAt}
 use Rattle.model.specs.PathStates.{stateOf, commissioned}
@@ -15,18 +13,6 @@ use Rattle.model.specs.Work.{commissionMask}
 use Rattle.model.specs.declared.path.PathState.{PathState}
 use Rattle.model.specs.declared.lane.Trigger.the-variants.{Immediate}
 use Rattle.bits.proofs.Masks.{set-ext, has-none, next-skips}
-
--- a turn of a loop that looks for a lane of the group that passes a test
-module _ (g : ℕ) (p : ℕ → Bool) where
-  pub some-turn : (n : ℕ) (found here passes : Bool) → found ≡ anyBelow n (λ m. both (has g m) (p m)) → here ≡ has g n → passes ≡ p n
-      → found || (here && passes) ≡ anyBelow (n + 1) (λ m. both (has g m) (p m))
-  unfolding anyBelow either both
-  some-turn n found here passes e h t = rw (add-one n, ← e, ← h, ← t) (meet found here passes)
-    where
-      meet : (a b d : Bool) → a || (b && d) ≡ either a (both b d)
-      meet true b d = refl
-      meet false true d = refl
-      meet false false d = refl
 
 -- a set of a byte with no first lane is empty
 pub none-first : (g : ℕ) → g < 2 ^ 8 → 8 ≤ nextIn 8 g 0 → g ≡ 0

@@ -7,7 +7,7 @@ use native.Mathlib.Nat.{not-suc-le-zero}
 use native.Mathlib.Decide.{decLt, ℕ-discrete}
 use native.Mathlib.Omega.{arith}
 use borrow.Author.Tests.{not-true, eqb-false, ne-eqb}
-use lib.Bits.{bitAnd, bitOr, and-shr, and-mod, and-le-l, and-le-r, or-add-and, or-zero-l}
+use lib.Bits.{bitAnd, bitOr, and-le-l, and-le-r, or-add-and, or-zero-l}
 use lib.Dec.{eqb}
 use lib.Pow.{shr-shr}
 use Rattle.bits.specs.Choice.{both, either}
@@ -16,7 +16,7 @@ use Rattle.bits.specs.Number.{field}
 use Rattle.bits.specs.Sets.{has}
 use Rattle.bits.proofs.Loops.{any-none, any-find, any-ext}
 use Rattle.bits.proofs.Masks.{set-ext, has-none}
-use Rattle.bits.proofs.Number.{digit-zero-or-one, lowest}
+use Rattle.bits.proofs.Number.{digit-zero-or-one, digit-and, lowest}
 use Rattle.bits.proofs.Tests.{split, clash, bool-eq}
 
 -- a digit above the lowest is one of the half
@@ -32,11 +32,6 @@ other (suc w) m (suc b) h l =
     let e : (2 ^ suc w - 1 - m) / 2 ≡ 2 ^ w - 1 - m / 2 = omega arith in
     rw (half (2 ^ suc w - 1 - m) b, half m b, e) (other w (m / 2) b (omega arith) (omega arith))
 
--- a digit of `and`
-and-digit : (f n b : ℕ) → field (bitAnd f n) b 1 ≡ bitAnd (field f b 1) (field n b 1)
-unfolding field
-and-digit f n b = rw (and-shr f n b, and-mod (f / 2 ^ b) (n / 2 ^ b) 1)
-
 -- what is left of the flags f, with n the complement of the masks m, has the digits that are 1 in f and 0 in m
 open-digit : (f n m b : ℕ) → field n b 1 + field m b 1 ≡ 1 → has (bitAnd f n) b ≡ both (eqb (field f b 1) 1) (eqb (field m b 1) 0)
 unfolding has both
@@ -44,9 +39,9 @@ open-digit f n m b h = cases (digit-zero-or-one f b) (digit-zero-or-one m b)
   where
     cases : (field f b 1 ≡ 0) ⊎ (field f b 1 ≡ 1) → (field m b 1 ≡ 0) ⊎ (field m b 1 ≡ 1)
         → has (bitAnd f n) b ≡ both (eqb (field f b 1) 1) (eqb (field m b 1) 0)
-    cases (inl p) q = rw (and-digit f n b, p)
-    cases (inr p) (inl q) = let e : field n b 1 ≡ 1 = omega arith in rw (and-digit f n b, p, q, e)
-    cases (inr p) (inr q) = let e : field n b 1 ≡ 0 = omega arith in rw (and-digit f n b, p, q, e)
+    cases (inl p) q = rw (digit-and f n b, p)
+    cases (inr p) (inl q) = let e : field n b 1 ≡ 1 = omega arith in rw (digit-and f n b, p, q, e)
+    cases (inr p) (inr q) = let e : field n b 1 ≡ 0 = omega arith in rw (digit-and f n b, p, q, e)
 
 -- a number of w digits is not zero exactly when one of them is 1
 some-digit : (w g : ℕ) → g < 2 ^ w → not (eqb g 0) ≡ anyBelow w (has g)

@@ -23,7 +23,7 @@ use Rattle.model.specs.declared.event.Call.the-variants.{Hardware}
 use Rattle.model.specs.declared.path.PathState.{PathState}
 use Rattle.model.specs.declared.path.Signals.{Signals}
 use Rattle.model.specs.declared.path.PathState.the-variants.{Reserved, Deactivated, Init, Deinit, Activated, TxTurnOn, TxTurnOff, Initialized}
-use Rattle.laws_step.specs.Told.{stepOn, PathMoved, MutedLane, shines}
+use Rattle.laws_step.specs.Told.{stepOn, MutedLane, shines}
 use Rattle.laws_step.proofs.Moving.{hardware-moves}
 
 -- ---- the table

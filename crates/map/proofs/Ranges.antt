@@ -1,7 +1,7 @@
 -- Tests of the register map, as code computes them with `&` and `|`. Assumes nothing.
 use mathlib.Core.Path.{_≡_, refl, sym, ap, _∙_}
-use mathlib.Core.Bool.{Bool, true, false, _&&_, _||_}
-use Rattle.bits.specs.Choice.{both, either}
+use mathlib.Core.Bool.{Bool, true, false, _||_}
+use Rattle.bits.specs.Choice.{either}
 
 pub either-or : (a b r : Bool) → either (a || b) r ≡ either a (either b r)
 unfolding either

@@ -1,10 +1,10 @@
 -- Host accesses, byte by byte in address order (01 "Host accesses").
-use Prim.Native.Nat.{ℕ, zero, suc, _+_}
+use Prim.Native.Nat.{ℕ, suc, _+_}
 use mathlib.Core.Bool.{Bool}
 use mathlib.Core.List.{List, [], _∷_}
-use lib.Dec.{eqb, leb, ltb}
+use lib.Dec.{eqb, ltb}
 use lib.ListN.{getD, set}
-use Rattle.bits.specs.Choice.{pick, both, either}
+use Rattle.bits.specs.Choice.{pick, either}
 use Rattle.bits.specs.Loop.{each, tab}
 use Rattle.model.specs.Map.{Image, pageSelect, applyDPInit, applyImmediate, stagedSet0, writable, clearing}
 use Rattle.model.specs.Triggers.{State, triggered}

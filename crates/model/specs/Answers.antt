@@ -1,6 +1,6 @@
 -- The answers and their numbers (01 "When the desk says no", Req 08).
 use Prim.Native.Nat.{ℕ}
-use mathlib.Core.Bool.{Bool, true, false}
+use mathlib.Core.Bool.{Bool}
 use lib.Dec.{eqb}
 use Rattle.model.specs.declared.answer.Answer.{Answer}
 use Rattle.model.specs.declared.answer.Answer.the-variants.{Done, WrongLength, FlatMemory, Unsound, BadAccess, ShortBuffer, NothingToDo, Busy, NoSuchPlace, Malformed, BackToFront}

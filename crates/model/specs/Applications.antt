@@ -7,7 +7,6 @@ use Rattle.bits.specs.Choice.{pick, both}
 use Rattle.bits.specs.Loop.{allBelow}
 use Rattle.bits.specs.Number.{field}
 use Rattle.model.specs.Map.{Image, descriptors, moreDescriptors}
-use Rattle.model.specs.declared.application.Descriptor.{Descriptor}
 use Rattle.model.specs.declared.application.Lookup.{Lookup}
 use Rattle.model.specs.declared.application.Lookup.the-variants.{Missing, Found}
 

@@ -1,13 +1,12 @@
 -- Flags: conditions, samples of received power, and the interrupt bit (01 "Paths and flags", "Host accesses").
 use Prim.Native.Nat.{ℕ, _+_, _*_}
 use mathlib.Core.Bool.{Bool}
-use mathlib.Core.List.{List}
 use lib.Dec.{eqb, ltb}
-use Rattle.bits.specs.Choice.{pick, onlyIf, both, either}
+use Rattle.bits.specs.Choice.{pick, onlyIf, both}
 use Rattle.bits.specs.Loop.{anyBelow}
 use Rattle.bits.specs.Place.{put, digit}
 use Rattle.bits.specs.Word.{word, putWord}
-use Rattle.model.specs.Map.{Image, Range, range, inRanges, flagAt, flagBytes, flagMasks, flagByteCount, interruptBit, receivedPower, highAlarm, lowAlarm, highWarning, lowWarning, highAlarmFlag, lowAlarmFlag, highWarningFlag, lowWarningFlag}
+use Rattle.model.specs.Map.{Image, range, inRanges, flagAt, flagBytes, flagMasks, flagByteCount, interruptBit, receivedPower, highAlarm, lowAlarm, highWarning, lowWarning, highAlarmFlag, lowAlarmFlag, highWarningFlag, lowWarningFlag}
 use Rattle.model.specs.Hardware.{withFlags}
 use mathlib.Core.List.{[], _∷_}
 

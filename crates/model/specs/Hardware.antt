@@ -1,7 +1,6 @@
 -- A hardware event on a path (01 "Paths and flags"; 002 table 6-18).
 use Prim.Native.Nat.{ℕ}
-use mathlib.Core.Bool.{Bool, true, false, not}
-use mathlib.Core.List.{List}
+use mathlib.Core.Bool.{Bool, false, not}
 use lib.Dec.{eqb}
 use Rattle.bits.specs.Choice.{pick, onlyIf, either}
 use Rattle.bits.specs.Loop.{each}

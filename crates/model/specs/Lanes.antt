@@ -1,17 +1,14 @@
 -- The lanes' records: reading them and replacing their stages (01 "The module we ship").
 use Prim.Native.Nat.{ℕ}
 use mathlib.Core.Bool.{Bool, true, false}
-use mathlib.Core.List.{List, [], _∷_}
 use lib.ListN.{getD}
 use Rattle.bits.specs.Choice.{pick, both}
 use Rattle.bits.specs.Loop.{tab, anyBelow}
 use Rattle.bits.specs.Sets.{has}
 use Rattle.model.specs.Map.{laneCount}
 use Rattle.model.specs.declared.lane.Settings.{Settings}
-use Rattle.model.specs.declared.lane.Trigger.{Trigger}
 use Rattle.model.specs.declared.lane.Verdict.{Verdict}
 use Rattle.model.specs.declared.lane.Verdict.the-variants.{Pass, Reject}
-use Rattle.model.specs.declared.lane.Progress.{Progress}
 use Rattle.model.specs.declared.lane.Stage.{Stage}
 use Rattle.model.specs.declared.lane.Stage.the-variants.{Idle, InProgress}
 use Rattle.model.specs.declared.lane.LaneRecord.{LaneRecord}

@@ -1,6 +1,6 @@
 -- The register map: every address once, by name (01 "The module we ship"; 002 chapter 8). An address of a page is its place in the image.
 use Prim.Native.Nat.{ℕ, _+_, _-_}
-use mathlib.Core.Bool.{Bool, true, false}
+use mathlib.Core.Bool.{Bool, false}
 use mathlib.Core.List.{List, [], _∷_}
 use lib.Dec.{leb}
 use lib.ListN.{getD}

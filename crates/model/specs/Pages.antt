@@ -1,11 +1,11 @@
 -- Page selection (01 "Host accesses").
 use Prim.Native.Nat.{ℕ, _+_, _-_}
-use mathlib.Core.Bool.{Bool, true, false, not}
+use mathlib.Core.Bool.{Bool, true, false}
 use mathlib.Core.List.{List, [], _∷_}
 use lib.Dec.{eqb, ltb}
 use lib.ListN.{getD, set}
 use Rattle.bits.specs.Choice.{pick, both, implies}
-use Rattle.model.specs.Map.{Image, page00, page01, page02, page10, page11, on, bankSelect, pageSelect}
+use Rattle.model.specs.Map.{Image, page00, page01, page02, page10, page11, bankSelect, pageSelect}
 use Rattle.model.specs.declared.page.PagePlace.{PagePlace}
 use Rattle.model.specs.declared.page.PagePlace.the-variants.{Unsupported, At}
 

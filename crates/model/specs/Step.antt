@@ -1,10 +1,8 @@
 -- One event, and a run of events. A step asks for the refusals 4, 8, 5, 7 and 6; it is begun at a start, or at a state that was found sound.
-use Prim.Native.Nat.{ℕ, _+_}
-use mathlib.Core.Bool.{Bool}
+use Prim.Native.Nat.{ℕ}
 use mathlib.Core.List.{List, [], _∷_}
 use lib.ListN.{take}
 use Rattle.bits.specs.Choice.{pick}
-use Rattle.model.specs.Map.{Image}
 use Rattle.model.specs.Answers.{isDone}
 use Rattle.model.specs.Triggers.{State}
 use Rattle.model.specs.Work.{Carried, leaves, Mode, workStep}

@@ -1,7 +1,6 @@
 -- What a trigger leaves: the groups that it marks (01 "Triggers and verdicts").
 use Prim.Native.Nat.{ℕ}
-use mathlib.Core.Bool.{Bool, true, false, not}
-use mathlib.Core.List.{List}
+use mathlib.Core.Bool.{Bool, false, not}
 use lib.Dec.{eqb}
 use Rattle.bits.specs.Choice.{pick, both}
 use Rattle.bits.specs.Loop.{each}
@@ -16,7 +15,7 @@ use Rattle.model.specs.Verdicts.{verdictOf}
 use Rattle.model.specs.declared.lane.Trigger.{Trigger}
 use Rattle.model.specs.declared.lane.Trigger.the-variants.{DpInit, Immediate}
 use Rattle.model.specs.declared.lane.Stage.{Stage}
-use Rattle.model.specs.declared.lane.Stage.the-variants.{Idle, InProgress}
+use Rattle.model.specs.declared.lane.Stage.the-variants.{InProgress}
 use Rattle.model.specs.declared.lane.Working.{Working}
 
 -- the module: its registers and what it keeps beside them

@@ -1,8 +1,8 @@
 -- The verdict on a group: the first reason of 01's list that applies (01 "Triggers and verdicts"; 002 section 8.9.3).
 use Prim.Native.Nat.{ℕ, _+_}
-use mathlib.Core.Bool.{Bool, true, false, not}
+use mathlib.Core.Bool.{Bool, false, not}
 use mathlib.Core.List.{List}
-use lib.Dec.{eqb, leb, ltb}
+use lib.Dec.{eqb, ltb}
 use Rattle.bits.specs.Choice.{pick, both, either}
 use Rattle.bits.specs.Loop.{anyBelow}
 use Rattle.bits.specs.Sets.{has}

@@ -1,6 +1,6 @@
 -- What groups, paths and verdicts look at: the lanes' settings and states and the Applications, read off the image. Past this file they know no address.
 use Prim.Native.Nat.{ℕ, _+_}
-use mathlib.Core.Bool.{Bool, true, false, not}
+use mathlib.Core.Bool.{Bool, false, not}
 use mathlib.Core.List.{List, [], _∷_}
 use lib.Dec.{eqb, leb, ltb}
 use lib.ListN.{getD}

@@ -1,7 +1,7 @@
 -- A work step: what it copies, and how a group closes (01 "Work step").
 use Prim.Native.Nat.{ℕ, suc}
 use mathlib.Core.Bool.{Bool, true, false, not}
-use mathlib.Core.List.{List, [], _∷_}
+use mathlib.Core.List.{List, []}
 use lib.Dec.{eqb, ltb}
 use lib.ListN.{getD}
 use Rattle.bits.specs.Choice.{pick}
@@ -12,7 +12,7 @@ use Rattle.model.specs.Map.{Image, laneCount, activeSet, settingAt, sett
 use Rattle.model.specs.Statuses.{success}
 use Rattle.model.specs.PathStates.{stateOf, commissioned}
 use Rattle.model.specs.Lanes.{noSettings, stageAt, heldIn, freed, advanced}
-use Rattle.model.specs.View.{appSel, explicit, isUsed, settingValues}
+use Rattle.model.specs.View.{explicit, isUsed, settingValues}
 use Rattle.model.specs.Groups.{firstIn, someIn}
 use Rattle.model.specs.Triggers.{State, withStatus}
 use Rattle.model.specs.declared.lane.Settings.{Settings}
@@ -20,7 +20,6 @@ use Rattle.model.specs.declared.lane.Trigger.{Trigger}
 use Rattle.model.specs.declared.lane.Trigger.the-variants.{DpInit, Immediate}
 use Rattle.model.specs.declared.lane.Verdict.{Verdict}
 use Rattle.model.specs.declared.lane.Verdict.the-variants.{Pass, Reject}
-use Rattle.model.specs.declared.lane.Progress.{Progress}
 use Rattle.model.specs.declared.lane.Stage.{Stage}
 use Rattle.model.specs.declared.lane.Stage.the-variants.{Idle, InProgress}
 use Rattle.model.specs.declared.lane.Working.{Working}

@@ -59,7 +59,7 @@ pub fn hardware(image: &mut [u8], w: Working, lane: u8) -> Left
     if !paths::used_at(image, map::ACTIVE_SET, lane) {
         return replies::reply(Answer::NothingToDo, w);
     }
-    paths::move_path(image, lane);
+    moves::move_path(image, lane);
     flags::settle(image);
     replies::reply(Answer::Done, w)
 }

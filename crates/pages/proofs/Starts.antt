@@ -26,10 +26,6 @@ place-fits bank page =
     (one-fits _ _ _ (omega arith, omega arith)
     (one-fits _ _ _ (omega arith, omega arith) (omega arith, omega arith)))))
 
-pub start-low : (x : Image) → 128 ≤ selectedStart x
-unfolding selectedStart
-start-low x = place-fits (getD x 126 0) (getD x 127 0) .0
-
 pub start-fits : (x : Image) → selectedStart x + 128 ≤ 768
 unfolding selectedStart
 start-fits x = place-fits (getD x 126 0) (getD x 127 0) .1

@@ -2,4 +2,3 @@
 pub mod Turns
 pub mod Sets
 pub mod Lanes
-pub mod Moves

@@ -7,7 +7,7 @@ use Prim.Native.Nat.{ℕ, _+_, _*_, _/_, _%_, _^_, _<_}
 use native.Mathlib.Decide.{decLt}
 use native.Mathlib.Omega.{arith}
 use borrow.Author.Tests.{not-true, eqb-false, ne-eqb}
-use lib.Bits.{bitAnd, and-shr, and-mod}
+use lib.Bits.{bitAnd}
 use lib.Dec.{eqb}
 use lib.ListN.{getD}
 use Rattle.bits.specs.Choice.{both}
@@ -18,14 +18,10 @@ use Rattle.bits.specs.Place.{get}
 use Rattle.bits.specs.Sets.{has}
 use Rattle.bits.proofs.Loops.{any-none, any-find}
 use Rattle.bits.proofs.Masks.{set-ext, has-none}
-use Rattle.bits.proofs.Number.{digit-zero-or-one}
+use Rattle.bits.proofs.Number.{digit-zero-or-one, digit-and}
 use Rattle.bits.proofs.Tests.{split, clash, bool-eq}
 
 -- a lane is in both sets where its bit is in both numbers
-digit-and : (a b l : ℕ) → field (bitAnd a b) l 1 ≡ bitAnd (field a l 1) (field b l 1)
-unfolding field
-digit-and a b l = rw (and-shr a b l, and-mod (a / 2 ^ l) (b / 2 ^ l) 1)
-
 has-and : (a b l : ℕ) → has (bitAnd a b) l ≡ both (has a l) (has b l)
 unfolding has both
 has-and a b l = cases (digit-zero-or-one a l) (digit-zero-or-one b l)

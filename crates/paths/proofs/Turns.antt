@@ -4,7 +4,7 @@ use mathlib.Core.Bool.{Bool, true, false, _&&_, _||_}
 use Prim.Native.Nat.{ℕ, _+_}
 use native.Mathlib.Numerals.{add-one}
 use mir.Val.{boolByte}
-use Rattle.bits.specs.Choice.{pick, both, either}
+use Rattle.bits.specs.Choice.{pick, both}
 use Rattle.bits.specs.Loop.{anyBelow}
 use Rattle.bits.specs.Number.{withField}
 use Rattle.bits.specs.Sets.{has, maskOf}

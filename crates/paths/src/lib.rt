@@ -1,19 +1,14 @@
-// Paths: which lanes an active DataPathID joins, and the hardware event that moves a path from state to state.
+// Paths: which lanes an active DataPathID joins, and the states that a path rests in.
 ghost use mathlib.Core.Path.{_≡_};
 ghost use Prim.Native.Nat.{_+_, _≤_, _<_};
 ghost use lib.ListN.{length};
-ghost use Rattle.bits.specs.Choice.{onlyIf};
 ghost use Rattle.bits.specs.Sets.{has};
-ghost use Rattle.bits.specs.Lane.{laneField};
-ghost use Rattle.model.specs.Map.{activeSet, stateChanged};
+ghost use Rattle.model.specs.Map.{activeSet};
 ghost use Rattle.model.specs.PathStates.{resting};
 ghost use Rattle.model.specs.View.{appSel, pathId, of, isUsed, settingsOf, samePath, pathOf};
 ghost use Rattle.model.specs.Groups.{someIn};
-ghost use Rattle.model.specs.Work.{withPending};
-ghost use Rattle.model.specs.Hardware.{someBit, toDeinit, toReinit, toDeactivate, signalsOf, nextState, initialized, withFlags, entered, moved, hardwareMoved};
 use map::ACTIVE_SET;
 use model::path::PathState;
-use model::path::Signals;
 
 // A lane's AppSel in the set at a base.
 pub fn app_at(image: &[u8], base: usize, lane: u8) -> u8
@@ -68,93 +63,6 @@ pub fn meets(a: u8, b: u8) -> bool
     a & b != 0
 }
 
-// Whether a lane of the set has its bit of a byte 1.
-pub fn some_bit(image: &[u8], at: usize, set: u8) -> bool
-    requires { ⌜ at + 1 ≤ length (now image) ⌝ }
-    ensures { λ r. ⌜ r ≡ someBit (now (image .entry)) (laneField at 1) set ⌝ }
-{
-    meets(set, image[at])
-}
-
-// S: a DPDeinit bit of the path is 1.
-pub fn to_deinit(image: &[u8], path: u8) -> bool
-    requires { ⌜ length (now image) ≡ 768 ⌝ }
-    ensures { λ r. ⌜ r ≡ toDeinit (now (image .entry)) path ⌝ }
-{
-    some_bit(image, map::DEINIT, path)
-}
-
-// R: S, or a DPInitPending bit of the path is 1.
-pub fn to_reinit(image: &[u8], path: u8) -> bool
-    requires { ⌜ length (now image) ≡ 768 ⌝ }
-    ensures { λ r. ⌜ r ≡ toReinit (now (image .entry)) path ⌝ }
-{
-    to_deinit(image, path) | some_bit(image, map::PENDING, path)
-}
-
-// D: R, or an OutputDisableTx or OutputSquelchForceTx bit of the path is 1.
-pub fn to_deactivate(image: &[u8], path: u8) -> bool
-    requires { ⌜ length (now image) ≡ 768 ⌝ }
-    ensures { λ r. ⌜ r ≡ toDeactivate (now (image .entry)) path ⌝ }
-{
-    let disabled = some_bit(image, map::OUTPUT_DISABLE, path);
-    let squelched = some_bit(image, map::SQUELCH_FORCE, path);
-    to_reinit(image, path) | (disabled | squelched)
-}
-
-// The signals of a path.
-pub fn signals_of(image: &[u8], path: u8) -> Signals
-    requires { ⌜ length (now image) ≡ 768 ⌝ }
-    ensures { λ r. ⌜ r ≡ signalsOf (now (image .entry)) path ⌝ }
-{
-    let deinit = to_deinit(image, path);
-    let reinit = to_reinit(image, path);
-    let deactivate = to_deactivate(image, path);
-    Signals {
-        deinit,
-        reinit,
-        deactivate,
-    }
-}
-
-// The state that follows, by the path's signals.
-pub fn next_state(from: PathState, by: Signals) -> PathState
-    ensures { λ to. ⌜ to ≡ nextState from by ⌝ }
-{
-    match from {
-        PathState::Reserved => PathState::Reserved,
-        PathState::Deactivated => if by.deinit {
-            PathState::Deactivated
-        } else {
-            PathState::Init
-        },
-        PathState::Init => if by.deinit {
-            PathState::Deinit
-        } else {
-            PathState::Initialized
-        },
-        PathState::Deinit => PathState::Deactivated,
-        PathState::Activated => if by.deactivate {
-            PathState::TxTurnOff
-        } else {
-            PathState::Activated
-        },
-        PathState::TxTurnOn => if by.deactivate {
-            PathState::TxTurnOff
-        } else {
-            PathState::Activated
-        },
-        PathState::TxTurnOff => PathState::Initialized,
-        PathState::Initialized => if by.reinit {
-            PathState::Deinit
-        } else if by.deactivate {
-            PathState::Initialized
-        } else {
-            PathState::TxTurnOn
-        },
-    }
-}
-
 // Whether a path rests in a state: DPDeactivated, DPInitialized, DPActivated.
 pub fn is_resting(state: PathState) -> bool
     ensures { λ r. ⌜ r ≡ resting state ⌝ }
@@ -169,62 +77,4 @@ pub fn is_resting(state: PathState) -> bool
         PathState::TxTurnOff => false,
         PathState::Initialized => true,
     }
-}
-
-// Whether DPInitialized is reached from DPInit.
-fn is_initialized(from: PathState, to: PathState) -> bool
-    ensures { λ r. ⌜ r ≡ initialized from to ⌝ }
-{
-    (from.code() == PathState::INIT) & (to.code() == PathState::INITIALIZED)
-}
-
-// What was pending is done once DPInitialized is reached from DPInit.
-fn clear_pending(image: &mut [u8], path: u8, from: PathState, to: PathState)
-    requires { ⌜ length (now image) ≡ 768 ⌝ }
-    ensures { λ _. ⌜ now (image .exit) ≡ onlyIf (initialized from to) (withPending (has path) 0) (now (image .entry)) ⌝ }
-{
-    if is_initialized(from, to) {
-        lanes::put_each(image, map::PENDING, 1, path, 0);
-    }
-}
-
-// A resting state sets the lanes' DPStateChanged flags.
-fn flag_change(image: &mut [u8], path: u8, to: PathState)
-    requires { ⌜ length (now image) ≡ 768 ⌝ }
-    ensures { λ _. ⌜ now (image .exit) ≡ onlyIf (resting to) (withFlags stateChanged path) (now (image .entry)) ⌝ }
-{
-    if is_resting(to) {
-        lanes::put_each(image, map::STATE_CHANGED, 1, path, 1);
-    }
-}
-
-// The path enters a state.
-fn enter(image: &mut [u8], path: u8, from: PathState, to: PathState)
-    requires { ⌜ length (now image) ≡ 768 ⌝ }
-    ensures { λ _. ⌜ now (image .exit) ≡ entered path from to (now (image .entry)) ⌝ }
-{
-    lanes::put_each(image, map::STATES, 4, path, to.code());
-    clear_pending(image, path, from, to);
-    flag_change(image, path, to);
-}
-
-// A path that stays enters nothing.
-fn move_to(image: &mut [u8], path: u8, from: PathState, to: PathState)
-    requires { ⌜ length (now image) ≡ 768 ⌝ }
-    ensures { λ _. ⌜ now (image .exit) ≡ moved path from to (now (image .entry)) ⌝ }
-{
-    if from.code() != to.code() {
-        enter(image, path, from, to);
-    }
-}
-
-// A hardware event on the path of a lane.
-pub fn move_path(image: &mut [u8], lane: u8)
-    requires { ⌜ (length (now image) ≡ 768) × (lane < 8) ⌝ }
-    ensures { λ _. ⌜ now (image .exit) ≡ hardwareMoved (now (image .entry)) lane ⌝ }
-{
-    let path = path_of(image, lane);
-    let from = PathState::of(lanes::nibble(image, map::STATES, lane));
-    let to = next_state(from, signals_of(image, path));
-    move_to(image, path, from, to);
 }

@@ -1,6 +1,5 @@
 // A night as a list of events.
 // The loop's whole state is one struct by value, so that the loop itself has a test, the loans, the event and one call.
-ghost use mathlib.Core.Path.{_≡_};
 ghost use Rattle.model.specs.Outcome.{Leaves, state, listOutcome};
 use model::event::Event;
 use model::lane::Working;

@@ -20,9 +20,10 @@ use Rattle.model.specs.declared.lane.Working.{Working}
 use Rattle.laws_list.proofs.Runs.{ending-snoc, run-snoc, length-run}
 use Rattle.text.specs.Buffer.{Puts}
 use Rattle.text.proofs.Laid.{laid-none, puts-then}
-use Rattle.replay.specs.Replay.{stateAfter, textAfter, Turns}
-use Rattle.replay.specs.declared.Reached.{Reached}
-use Rattle.replay.proofs.ReadBytes.{line-fits}
+use Rattle.replay.specs.Replay.{stateAfter, textAfter}
+use Rattle.lines.specs.Lines.{Turns}
+use Rattle.lines.specs.declared.Reached.{Reached}
+use Rattle.lines.proofs.ReadBytes.{line-fits}
 
 pub tab-snoc {ℓ} : {A : Type ℓ} (n : ℕ) (f : ℕ → A) → tab (suc n) f ≡ tab n f ++ (f n ∷ [])
 unfolding tab

@@ -17,7 +17,7 @@ use Rattle.model.specs.declared.file.FileCheck.the-variants.{Refused, Good}
 use Rattle.text.proofs.Lines.{bad-most}
 use Rattle.replay.specs.Replay.{roomFor, stateAfter, textAfter}
 use Rattle.replay.proofs.Files.{good-file, prints-refused, prints-night}
-use Rattle.replay.proofs.ReadBytes.{number-lt, line-fits}
+use Rattle.lines.proofs.ReadBytes.{number-lt, line-fits}
 use Rattle.replay.proofs.Records.{stepOf, text-next}
 
 -- 391 bytes a record

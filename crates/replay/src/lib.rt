@@ -4,18 +4,16 @@ ghost use Prim.Native.Nat.{_+_, _*_, _≤_, _<_};
 ghost use lib.ListN.{length};
 ghost use Rattle.model.specs.Answers.{number};
 ghost use Rattle.model.specs.Start.{started};
-ghost use Rattle.model.specs.Work.{early};
-ghost use Rattle.model.specs.Step.{step};
 ghost use Rattle.model.specs.Lanes.{idleWorking};
-ghost use Rattle.model.specs.Outcome.{state, listRoom};
-ghost use Rattle.model.specs.File.{imageIn, eventAt, checked};
+ghost use Rattle.model.specs.Outcome.{state};
+ghost use Rattle.model.specs.File.{imageIn, checked};
 ghost use Rattle.model.specs.Text.{badLine};
 ghost use Rattle.model.specs.Night.{printed};
 ghost use Rattle.model.specs.declared.file.FileCheck.the-variants as found;
 ghost use Rattle.text.specs.Buffer.{Puts};
-ghost use Rattle.replay.specs.Replay.{roomFor, answerFor, leftIn, Gives, countOf, shownBy, textAfter, Turns};
+ghost use Rattle.replay.specs.Replay.{roomFor, answerFor, leftIn, Gives, countOf, textAfter};
+use lines::Reached;
 use model::answer::Answer;
-use model::event::Call;
 use model::file::FileCheck;
 use model::lane::Working;
 
@@ -41,32 +39,6 @@ pub enum Replayed {
     Printed(usize),
 }
 
-// How far a replay has come: the bytes printed, and what the module keeps beside its image.
-pub struct Reached {
-    pub at: usize,
-    pub working: Working,
-}
-
-// How many bytes the line of an event shows, by its answer's number.
-fn shown(answer: u8, call: Call) -> usize
-    ensures { λ r. ⌜ r ≡ shownBy answer call ⌝ }
-{
-    if answer != 0 {
-        return 0;
-    }
-    match call {
-        Call::Write {
-            address: _,
-            count: _,
-        } => 0,
-        Call::Read { address: _, count } => count as usize,
-        Call::Work { lane: _ } => 0,
-        Call::Hardware { lane: _ } => 0,
-        Call::Condition { flag: _, mask: _ } => 0,
-        Call::Sample { lane: _, power: _ } => 0,
-    }
-}
-
 // A file's image.
 fn copy_image(file: &[u8], image: &mut [u8])
     requires { ⌜ (784 ≤ length (now file)) × (length (now image) ≡ 768) ⌝ }
@@ -86,30 +58,6 @@ fn start_image(file: &[u8], image: &mut [u8])
     startup::reset(image)
 }
 
-// A record's turn: its event, then its line.
-fn turn(
-    image: &mut [u8],
-    reached: Reached,
-    buffer: &mut [u8],
-    file: &[u8],
-    k: u32,
-    out: &mut [u8],
-) -> Reached
-    requires { ⌜ (length (now image) ≡ 768) × (length (now buffer) ≡ 128) × (784 + 12 * k + 12 ≤ length (now file)) × (k < 5000) × (reached .at + 391 ≤ length (now out)) ⌝ }
-    ensures { λ r. ⌜ Turns (step early listRoom (state (now (image .entry)) (reached .working)) (eventAt (now (file .entry)) k)) k (reached .at) (now (out .entry)) (now (out .exit)) (now (image .exit)) r ⌝ }
-{
-    let event = nightfile::event_at(file, k);
-    let call = event.call;
-    let at = reached.at;
-    let left = steps::step(image, reached.working, event, buffer);
-    let working = left.working;
-    let answer = left.answer;
-    let number = answer.number();
-    let count = shown(number, call);
-    let at = text::put_line(out, at, k, number, buffer, count);
-    Reached { at, working }
-}
-
 // The records of a file, each with its turn, from an image with all lanes idle.
 fn play(image: &mut [u8], buffer: &mut [u8], file: &[u8], count: u32, out: &mut [u8]) -> usize
     requires { ⌜ (length (now image) ≡ 768) × (length (now buffer) ≡ 128) × (784 + 12 * count ≤ length (now file)) × (count ≤ 5000) × (391 * count ≤ length (now out)) ⌝ }
@@ -118,7 +66,7 @@ fn play(image: &mut [u8], buffer: &mut [u8], file: &[u8], count: u32, out: &mut 
     let working = Working::idle();
     let mut reached = Reached { at: 0, working };
     for k in 0..count {
-        reached = turn(image, reached, buffer, file, k, out);
+        reached = lines::turn(image, reached, buffer, file, k, out);
     }
     reached.at
 }

@@ -2,7 +2,7 @@
 ghost use mathlib.Core.Path.{_≡_};
 ghost use Prim.Native.Nat.{_≤_, _<_};
 ghost use lib.ListN.{length};
-ghost use Rattle.turns.specs.Turns.{Playing, beginOf, turnOf, refusedRun};
+ghost use Rattle.turns.specs.Turns.{beginOf, turnOf, refusedRun};
 use model::answer::Answer;
 use model::answer::Left;
 use model::event::Event;

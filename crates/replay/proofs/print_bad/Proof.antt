@@ -2,7 +2,7 @@
 use native.Mathlib.Omega.{arith}
 use Rattle.model.specs.Answers.{number}
 use Rattle.text.proofs.Lines.{bad-most}
-use Rattle.replay.proofs.ReadBytes.{number-lt}
+use Rattle.lines.proofs.ReadBytes.{number-lt}
 use Rattle.replay.proofs.Buffers.{gives-none, gives-text}
 use borrow.Author.Needs.{needs}
 use Rattle.replay.proofs.print_bad.Statement.{statement}

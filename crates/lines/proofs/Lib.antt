@@ -1,0 +1,2 @@
+-- The bytes that a line shows, and its length.
+pub mod ReadBytes

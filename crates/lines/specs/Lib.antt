@@ -1,0 +1,2 @@
+-- A record's turn.
+pub mod Lines

@@ -1,0 +1,2 @@
+-- A path's move, put together from what its parts leave.
+pub mod Moves

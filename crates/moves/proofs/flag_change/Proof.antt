@@ -1,0 +1,29 @@
+-- `moves::flag_change` meets its contract. Assumes nothing.
+use mathlib.Core.Path.{sym, _∙_}
+use Rattle.bits.proofs.Tests.{only-true, only-false}
+use Rattle.model.specs.Hardware.{withFlags}
+use borrow.Author.Needs.{needs}
+use Rattle.moves.proofs.flag_change.Statement.{statement}
+use Rattle.moves.proofs.flag_change.Tie as tie
+
+is-resting-requires : tie.Need-is-resting-requires
+is-resting-requires c κs = search needs
+
+put-each-requires : tie.Need-put-each-requires
+put-each-requires c κs = search needs
+
+same-length : tie.Need-same-length
+same-length c = search needs
+
+returns : tie.Need-returns
+unfolding withFlags
+returns c =
+    c .before .before .put-each .ensures
+    ∙ sym (only-true _ _ (sym (c .before .before .before .before .before .is-resting .ensures) ∙ c .before .before .before .before .if1 .taken))
+
+returns-2 : tie.Need-returns-2
+returns-2 c = sym (only-false _ _ (sym (c .before .is-resting .ensures) ∙ c .if1 .left))
+
+pub flag-change-spec : {M : Type 1} → statement M
+flag-change-spec =
+    tie.close (tie.spec is-resting-requires put-each-requires same-length returns returns-2)
