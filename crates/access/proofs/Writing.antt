@@ -13,9 +13,8 @@ use Rattle.bits.specs.Choice.{pick}
 use Rattle.model.specs.Map.{Image}
 use Rattle.model.specs.Triggers.{State}
 use Rattle.model.specs.Access.{withImage, byteWritten, bytesWritten}
-use Rattle.model.specs.Outcome.{state}
+use Rattle.model.specs.Outcome.{LeavesState, state}
 use Rattle.model.specs.declared.lane.Working.{Working}
-use Rattle.triggers.specs.Marks.{Leaves}
 
 -- a byte set in a part of n bytes that starts at a is a byte of the whole
 pub part-set : (xs ys : List ℕ) (a n j v : ℕ) → a + n ≤ length xs → j < n
@@ -25,17 +24,17 @@ part-set xs ys a n j v l h e =
     rw e (set-mid-at a ((a + n) - a) j xs v (omega arith))
 
 -- an image stored into where the test holds, and the state with it
-pub stored-leaves : (b : Bool) (s : State) (y im : Image) → im ≡ pick b y (s .image) → Leaves (pick b (withImage s y) s) im (s .working)
+pub stored-leaves : (b : Bool) (s : State) (y im : Image) → im ≡ pick b y (s .image) → LeavesState (pick b (withImage s y) s) im (s .working)
 unfolding pick
-stored-leaves true s y im e = record { registers = e; records = refl }
-stored-leaves false s y im e = record { registers = e; records = refl }
+stored-leaves true s y im e = record { image = e; working = refl }
+stored-leaves false s y im e = record { image = e; working = refl }
 
 -- what is left, as one state
-pub left-state : {s : State} {im : Image} {w : Working} → Leaves s im w → state im w ≡ s
-left-state r = λ i. record { image = r .registers i; working = r .records i }
+pub left-state : {s : State} {im : Image} {w : Working} → LeavesState s im w → state im w ≡ s
+left-state r = λ i. record { image = r .image i; working = r .working i }
 
-pub state-left : {s : State} {im : Image} {w : Working} → s ≡ state im w → Leaves s im w
-state-left e = record { registers = sym (ap (λ t. t .image) e); records = sym (ap (λ t. t .working) e) }
+pub state-left : {s : State} {im : Image} {w : Working} → s ≡ state im w → LeavesState s im w
+state-left e = record { image = sym (ap (λ t. t .image) e); working = sym (ap (λ t. t .working) e) }
 
 -- a turn of the loop: the bytes from i on are still to be written, to the state s
 module _ (address : ℕ) (bytes : List ℕ) where

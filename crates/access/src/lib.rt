@@ -6,8 +6,7 @@ ghost use Rattle.bits.specs.Choice.{pick, onlyIf};
 ghost use Rattle.model.specs.Map.{writable, clearing};
 ghost use Rattle.model.specs.Pages.{placeOf};
 ghost use Rattle.model.specs.Access.{stored, byteWritten, bytesWritten, shown, halfEnd, isBadAccess};
-ghost use Rattle.model.specs.Outcome.{state};
-ghost use Rattle.triggers.specs.Marks.{Leaves};
+ghost use Rattle.model.specs.Outcome.{LeavesState, state};
 ghost use Rattle.access.specs.Left.{ReadOut};
 use model::lane::Trigger;
 use model::lane::Working;
@@ -111,7 +110,7 @@ pub fn store(image: &mut [u8], start: usize, offset: usize, v: u8)
 // A byte written to one of the 128 places from a start on.
 pub fn write_at(image: &mut [u8], w: Working, start: usize, offset: usize, v: u8) -> Working
     requires { ⌜ (length (now image) ≡ 768) × (start + 128 ≤ 768) × (offset < 128) ⌝ }
-    ensures { λ r. ⌜ Leaves (stored (start + offset) v (state (now (image .entry)) w)) (now (image .exit)) r ⌝ }
+    ensures { λ r. ⌜ LeavesState (stored (start + offset) v (state (now (image .entry)) w)) (now (image .exit)) r ⌝ }
 {
     let i = start + offset;
     if i == pages::PAGE_SELECT {
@@ -131,7 +130,7 @@ pub fn write_at(image: &mut [u8], w: Working, start: usize, offset: usize, v: u8
 // A byte written to an address: the upper half lies on the page selected now.
 pub fn write_byte(image: &mut [u8], w: Working, address: usize, v: u8) -> Working
     requires { ⌜ (length (now image) ≡ 768) × (address < 256) ⌝ }
-    ensures { λ r. ⌜ Leaves (byteWritten address v (state (now (image .entry)) w)) (now (image .exit)) r ⌝ }
+    ensures { λ r. ⌜ LeavesState (byteWritten address v (state (now (image .entry)) w)) (now (image .exit)) r ⌝ }
 {
     if address < 128 {
         return write_at(image, w, 0, address, v);
@@ -143,7 +142,7 @@ pub fn write_byte(image: &mut [u8], w: Working, address: usize, v: u8) -> Workin
 // A write: its bytes, from an address on.
 pub fn write(image: &mut [u8], w: Working, address: u8, bytes: &[u8]) -> Working
     requires { ⌜ (length (now image) ≡ 768) × (address + length (now bytes) ≤ halfEnd address) ⌝ }
-    ensures { λ r. ⌜ Leaves (bytesWritten address (now (bytes .entry)) (state (now (image .entry)) w)) (now (image .exit)) r ⌝ }
+    ensures { λ r. ⌜ LeavesState (bytesWritten address (now (bytes .entry)) (state (now (image .entry)) w)) (now (image .exit)) r ⌝ }
 {
     let mut next = w;
     for i in 0..bytes.len() {

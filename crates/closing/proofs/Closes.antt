@@ -7,12 +7,12 @@ use Rattle.model.specs.Statuses.{success}
 use Rattle.model.specs.Work.{early, copyGroup, isRelease, pendingAfter, commissionMask, closed, closedPass}
 use Rattle.model.specs.declared.lane.Trigger.{Trigger}
 use Rattle.model.specs.declared.lane.Working.{Working}
-use Rattle.records.specs.Leaves.{given, LeavesState}
+use Rattle.model.specs.Outcome.{LeavesState, state}
 use Rattle.closing.specs.Leaves.{Leaves}
 
 -- closing: the release decides the mask and the pending bits, then the group is closed
 pub closed-by : (x : Image) (w : Working) (g : ℕ) (t : Trigger) {y z : Image} {v : Working} {mask : ℕ} {release : Bool} → release ≡ isRelease w g
     → mask ≡ commissionMask release t x g → y ≡ pendingAfter release t g x → LeavesState (closed y w g success) z v
-    → Leaves (closedPass early (given x w) g t) z (record { mask = mask; working = v })
+    → Leaves (closedPass early (state x w) g t) z (record { mask = mask; working = v })
 unfolding closedPass copyGroup
 closed-by x w g t r m p l = record { image = rw (← r, ← p) (l .image); working = rw (← r, ← p) (l .working); mask = rw (← r) m }

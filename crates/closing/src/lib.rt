@@ -5,7 +5,7 @@ ghost use lib.ListN.{length};
 ghost use Rattle.model.specs.PathStates.{commissioned};
 ghost use Rattle.model.specs.Work.{early, pendingAfter, commissionMask, closed, closedPass};
 ghost use Rattle.model.specs.declared.lane.Trigger.the-variants.{Immediate};
-ghost use Rattle.records.specs.Leaves.{given, LeavesState};
+ghost use Rattle.model.specs.Outcome.{LeavesState, state};
 ghost use Rattle.closing.specs.Leaves.{Leaves};
 use model::lane::LaneRecord;
 use model::lane::Trigger;
@@ -97,7 +97,7 @@ pub fn close(image: &mut [u8], w: Working, group: u8, code: u8) -> Working
 // The closing step of a pass. The state decides before the pending bits change.
 pub fn close_pass(image: &mut [u8], w: Working, group: u8, trigger: Trigger) -> Worked
     requires { ⌜ length (now image) ≡ 768 ⌝ }
-    ensures { λ r. ⌜ Leaves (closedPass early (given (now (image .entry)) w) group trigger) (now (image .exit)) r ⌝ }
+    ensures { λ r. ⌜ Leaves (closedPass early (state (now (image .entry)) w) group trigger) (now (image .exit)) r ⌝ }
 {
     let release = stages::is_release(w, group);
     let mask = commission_mask(image, release, trigger, group);

@@ -4,7 +4,7 @@ ghost use Prim.Native.Nat.{_<_};
 ghost use lib.ListN.{length};
 ghost use Rattle.model.specs.Lanes.{stageAt, heldIn};
 ghost use Rattle.model.specs.Work.{early, written, withActive, copied};
-ghost use Rattle.records.specs.Leaves.{given, LeavesState};
+ghost use Rattle.model.specs.Outcome.{LeavesState, state};
 use model::lane::Working;
 
 // What lane n's own record holds is copied, whatever is staged by now.
@@ -19,7 +19,7 @@ fn copy_lane(image: &mut [u8], w: Working, n: u8)
 // The step that copies lane n, after which the group's next lane follows.
 pub fn copy_next(image: &mut [u8], w: Working, group: u8, n: u8) -> Working
     requires { ⌜ (length (now image) ≡ 768) × (n < 8) ⌝ }
-    ensures { λ r. ⌜ LeavesState (copied early (given (now (image .entry)) w) group n) (now (image .exit)) r ⌝ }
+    ensures { λ r. ⌜ LeavesState (copied early (state (now (image .entry)) w) group n) (now (image .exit)) r ⌝ }
 {
     copy_lane(image, w, n);
     let next = sets::next_in(group, n + 1);

@@ -7,6 +7,7 @@ use Rattle.bits.specs.Choice.{pick}
 use Rattle.model.specs.Map.{Image}
 use Rattle.model.specs.Answers.{number}
 use Rattle.model.specs.Step.{Out}
+use Rattle.model.specs.Outcome.{laidOver}
 use Rattle.model.specs.Text.{line}
 use Rattle.model.specs.declared.event.Call.{Call}
 use Rattle.model.specs.declared.event.Call.the-variants.{Write, Read, Work, Hardware, Condition, Sample}
@@ -26,8 +27,9 @@ readCount (Sample l p) = 0
 unfoldable pub shownBy : ℕ → Call → ℕ
 shownBy answer call = pick (eqb answer 0) (readCount call) 0
 
--- what a record's turn leaves: the state, and its line
-pub record Turns (o : Out) (k at : ℕ) (before after : List ℕ) (image : Image) (r : Reached) : Type 0 where
+-- what a record's turn leaves: the state, the bytes read, and its line
+pub record Turns (o : Out) (k at : ℕ) (buffer bufferLeft before after : List ℕ) (image : Image) (r : Reached) : Type 0 where
   pub registers : image ≡ o .state .image
   pub lanes : r .working ≡ o .state .working
+  pub bytes : bufferLeft ≡ laidOver (o .bytes) buffer
   pub text : Puts at (line k (number (o .answer)) (o .bytes)) before after (r .at)

@@ -46,7 +46,7 @@ pub fn turn(
     out: &mut [u8],
 ) -> Reached
     requires { ⌜ (length (now image) ≡ 768) × (length (now buffer) ≡ 128) × (784 + 12 * k + 12 ≤ length (now file)) × (k < 5000) × (reached .at + 391 ≤ length (now out)) ⌝ }
-    ensures { λ r. ⌜ Turns (step early listRoom (state (now (image .entry)) (reached .working)) (eventAt (now (file .entry)) k)) k (reached .at) (now (out .entry)) (now (out .exit)) (now (image .exit)) r ⌝ }
+    ensures { λ r. ⌜ Turns (step early listRoom (state (now (image .entry)) (reached .working)) (eventAt (now (file .entry)) k)) k (reached .at) (now (buffer .entry)) (now (buffer .exit)) (now (out .entry)) (now (out .exit)) (now (image .exit)) r ⌝ }
 {
     let event = nightfile::event_at(file, k);
     let call = event.call;

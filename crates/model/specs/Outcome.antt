@@ -33,6 +33,11 @@ pub record Leaves (o : Outcome) (r : Left) (imageLeft bufferLeft : List ℕ) : T
   pub buffer : bufferLeft ≡ o .buffer
   pub mask : r .mask ≡ o .mask
 
+-- the contract of a part of a call: the image as it left it and the working state that it handed back are a state's
+pub record LeavesState (s : State) (imageLeft : Image) (handedBack : Working) : Type 0 where
+  pub image : imageLeft ≡ s .image
+  pub working : handedBack ≡ s .working
+
 abbrev pub state : Image → Working → State
 state x w = record { image = x; working = w }
 

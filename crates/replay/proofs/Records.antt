@@ -70,9 +70,9 @@ module _ (s : State) (file : List ℕ) (k : ℕ) where
       )
 
   -- a turn of the loop over the records
-  module _ (image out after left : List ℕ) (w : Working) (at : ℕ) (r : Reached)
-      (reached : state image w ≡ stateAfter s file k) (turned : Turns (step early listRoom (state image w) (eventAt file k)) k at out after left r) where
-    turns : Turns stepOf k at out after left r
+  module _ (image buffer bufferLeft out after left : List ℕ) (w : Working) (at : ℕ) (r : Reached)
+      (reached : state image w ≡ stateAfter s file k) (turned : Turns (step early listRoom (state image w) (eventAt file k)) k at buffer bufferLeft out after left r) where
+    turns : Turns stepOf k at buffer bufferLeft out after left r
     turns = rw reached at turned
 
     pub turn-state : state left (r .working) ≡ stateAfter s file (k + 1)

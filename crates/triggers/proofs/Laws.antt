@@ -25,6 +25,7 @@ use Rattle.model.specs.View.{View, settingsAt, viewOf}
 use Rattle.model.specs.Groups.{groupOf, firstIn, someIn}
 use Rattle.model.specs.Verdicts.{verdictOf}
 use Rattle.model.specs.Triggers.{withStatus, isMarked, markedStage, stageAfter, marked, isIgnored, triggered}
+use Rattle.model.specs.Outcome.{LeavesState, state}
 use Rattle.model.specs.declared.lane.Settings.{Settings}
 use Rattle.model.specs.declared.lane.Trigger.{Trigger}
 use Rattle.model.specs.declared.lane.Verdict.{Verdict}
@@ -32,7 +33,7 @@ use Rattle.model.specs.declared.lane.Verdict.the-variants.{Pass}
 use Rattle.model.specs.declared.lane.Stage.the-variants.{InProgress}
 use Rattle.model.specs.declared.lane.Working.{Working}
 use Rattle.triggers.specs.declared.Marking.{Marking}
-use Rattle.triggers.specs.Marks.{Leaves, Marks}
+use Rattle.triggers.specs.Marks.{Marks}
 
 -- ---- which lanes
 
@@ -109,9 +110,9 @@ module _ (t : Trigger) (base : ℕ) (x : Image) (w : Working) (selected n : ℕ)
 -- ---- all lanes
 
 module _ (t : Trigger) (base : ℕ) (x : Image) (w : Working) (selected : ℕ) where
-  pub left-alone : isIgnored t x ≡ true → Leaves (triggered t base (record { image = x; working = w }) selected) x w
+  pub left-alone : isIgnored t x ≡ true → LeavesState (triggered t base (state x w) selected) x w
   unfolding triggered
-  left-alone e = rw (pick-true _ _ e) (record { registers = refl; records = refl })
+  left-alone e = rw (pick-true _ _ e) (record { image = refl; working = refl })
 
   -- the records, all marked
   records-by : (rs : _) → length (w .lanes) ≡ 8
@@ -124,11 +125,11 @@ module _ (t : Trigger) (base : ℕ) (x : Image) (w : Working) (selected : ℕ) w
 
   pub all-marked : (m : Marking) (y : Image) → length (w .lanes) ≡ 8 → isIgnored t x ≡ false → Marks t (viewOf base x) w selected 8 m
       → y ≡ each (has (m .marked)) (λ l z. put z (laneField 714 4 l) 12) 8 x
-      → Leaves (triggered t base (record { image = x; working = w }) selected) y (m .working)
+      → LeavesState (triggered t base (state x w) selected) y (m .working)
   unfolding triggered marked withStatus withStages
   all-marked m y len e h p =
       rw (pick-false _ _ e)
       (record {
-        registers = p ∙ each-ext _ _ _ _ 8 x (λ l b. rw (h .marked) (has-mask 8 _ l b)) (λ l z b c. refl);
-        records = ap (λ rs. record { lanes = rs }) (records-by (m .working .lanes) len (h .lanes));
+        image = p ∙ each-ext _ _ _ _ 8 x (λ l b. rw (h .marked) (has-mask 8 _ l b)) (λ l z b c. refl);
+        working = ap (λ rs. record { lanes = rs }) (records-by (m .working .lanes) len (h .lanes));
       })

@@ -1,21 +1,15 @@
--- What a trigger leaves, and what marking has come to after some of the lanes.
+-- What marking has come to after some of the lanes.
 use mathlib.Core.Path.{_≡_}
 use Prim.Native.Nat.{ℕ}
 use lib.ListN.{set}
 use Rattle.bits.specs.Loop.{each}
 use Rattle.bits.specs.Sets.{maskOf}
-use Rattle.model.specs.Map.{Image}
 use Rattle.model.specs.View.{View}
 use Rattle.model.specs.Verdicts.{verdictOf}
-use Rattle.model.specs.Triggers.{State, isMarked, markedStage}
+use Rattle.model.specs.Triggers.{isMarked, markedStage}
 use Rattle.model.specs.declared.lane.Trigger.{Trigger}
 use Rattle.model.specs.declared.lane.Working.{Working}
 use Rattle.triggers.specs.declared.Marking.{Marking}
-
--- an image and a working state that are those of a state of the module
-pub record Leaves (s : State) (image : Image) (working : Working) : Type 0 where
-  pub registers : image ≡ s .image
-  pub records : working ≡ s .working
 
 -- the lanes below n that are to be marked have their records, and the verdict kept is that on the group kept
 pub record Marks (t : Trigger) (v : View) (w : Working) (selected n : ℕ) (m : Marking) : Type 0 where

@@ -7,7 +7,8 @@ ghost use Rattle.model.specs.Lanes.{stageAt, isInProgress};
 ghost use Rattle.model.specs.View.{viewOf};
 ghost use Rattle.model.specs.Verdicts.{verdictOf};
 ghost use Rattle.model.specs.Triggers.{isIgnored, triggered};
-ghost use Rattle.triggers.specs.Marks.{Leaves, Marks};
+ghost use Rattle.model.specs.Outcome.{LeavesState, state};
+ghost use Rattle.triggers.specs.Marks.{Marks};
 use model::lane::LaneRecord;
 use model::lane::Progress;
 use model::lane::Stage;
@@ -135,7 +136,7 @@ fn mark(image: &[u8], w: Working, kind: Trigger, base: usize, selected: u8) -> M
 // A trigger of the staged set at a base, for the selected lanes.
 pub fn trigger(image: &mut [u8], w: Working, kind: Trigger, base: usize, selected: u8) -> Working
     requires { ⌜ (length (now image) ≡ 768) × (base + 29 ≤ 768) ⌝ }
-    ensures { λ r. ⌜ Leaves (triggered kind base (record { image = now (image .entry); working = w }) selected) (now (image .exit)) r ⌝ }
+    ensures { λ r. ⌜ LeavesState (triggered kind base (state (now (image .entry)) w) selected) (now (image .exit)) r ⌝ }
 {
     if is_ignored(image, kind) {
         return w;

@@ -3,7 +3,7 @@ ghost use mathlib.Core.Path.{_≡_};
 ghost use Prim.Native.Nat.{_<_};
 ghost use lib.ListN.{length};
 ghost use Rattle.model.specs.Work.{early, workedBy, workedOn, workStep};
-ghost use Rattle.records.specs.Leaves.{given};
+ghost use Rattle.model.specs.Outcome.{state};
 ghost use Rattle.closing.specs.Leaves.{Leaves};
 use closing::Worked;
 use model::lane::LaneRecord;
@@ -15,7 +15,7 @@ use model::lane::Working;
 // A step of a group by its verdict.
 fn by_verdict(image: &mut [u8], w: Working, group: u8, trigger: Trigger, verdict: Verdict) -> Worked
     requires { ⌜ length (now image) ≡ 768 ⌝ }
-    ensures { λ r. ⌜ Leaves (workedBy verdict early (given (now (image .entry)) w) group trigger) (now (image .exit)) r ⌝ }
+    ensures { λ r. ⌜ Leaves (workedBy verdict early (state (now (image .entry)) w) group trigger) (now (image .exit)) r ⌝ }
 {
     match verdict {
         Verdict::Reject(code) => {
@@ -36,7 +36,7 @@ fn by_verdict(image: &mut [u8], w: Working, group: u8, trigger: Trigger, verdict
 // A step by a lane's stage; an idle lane leaves everything as it is.
 fn by_stage(image: &mut [u8], w: Working, stage: Stage) -> Worked
     requires { ⌜ length (now image) ≡ 768 ⌝ }
-    ensures { λ r. ⌜ Leaves (workedOn stage early (given (now (image .entry)) w)) (now (image .exit)) r ⌝ }
+    ensures { λ r. ⌜ Leaves (workedOn stage early (state (now (image .entry)) w)) (now (image .exit)) r ⌝ }
 {
     match stage {
         Stage::Idle => Worked {
@@ -54,7 +54,7 @@ fn by_stage(image: &mut [u8], w: Working, stage: Stage) -> Worked
 // A work step on a lane.
 pub fn work(image: &mut [u8], w: Working, lane: u8) -> Worked
     requires { ⌜ (length (now image) ≡ 768) × (lane < 8) ⌝ }
-    ensures { λ r. ⌜ Leaves (workStep early (given (now (image .entry)) w) lane) (now (image .exit)) r ⌝ }
+    ensures { λ r. ⌜ Leaves (workStep early (state (now (image .entry)) w) lane) (now (image .exit)) r ⌝ }
 {
     let i = lane as usize;
     let record = w.lanes[i];

@@ -24,7 +24,7 @@ same-length c = search needs
 
 returns : tie.Need-returns
 unfolding stored pick
-returns c = rw (eq-eqb _ _ (c .before .before .before .before .if1 .taken)) (record { registers = c .before .before .select-page .ensures; records = refl })
+returns c = rw (eq-eqb _ _ (c .before .before .before .before .if1 .taken)) (record { image = c .before .before .select-page .ensures; working = refl })
 
 trigger-requires : tie.Need-trigger-requires
 trigger-requires c κs = search needs

@@ -57,9 +57,9 @@ returns-2 c = let w = c .before .before .before .before .before .before .before 
     (write-done _ _ _ _ (sym (c .before .before .before .before .before .before .before .before .before .before .before .bad-access .ensures) ∙ c .before .before .before .before .before .before .before .before .before .before .if1 .left))
     refl
     (ap (λ t. t .answer) (c .reply2 .ensures))
-    (w .registers)
+    (w .image)
     (c .before .before .before .settle .ensures)
-    (ap (λ t. t .working) (c .reply2 .ensures) ∙ w .records)
+    (ap (λ t. t .working) (c .reply2 .ensures) ∙ w .working)
     refl
     (ap (λ t. t .mask) (c .reply2 .ensures))
 

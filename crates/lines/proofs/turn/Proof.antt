@@ -70,6 +70,7 @@ returns c =
     record {
       registers = l .image;
       lanes = l .working;
+      bytes = l .buffer;
       text = rw (shown-line s e _ _ _ _ (l .buffer) n m (a .k)) at (c .before .before .put-line .ensures);
     }
 

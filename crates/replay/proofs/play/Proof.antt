@@ -54,14 +54,14 @@ loop-again c =
     let t = c .before .before .before .before .before .before .turn in
     let few = c .before .before .before .before .before .before .before .before .before .before .before .before .before .before .before .before .before .pre .3 in
     let wide = c .before .before .before .before .before .before .before .before .before .before .before .before .before .before .before .before .before .pre .4 in
-    let room = turn-room s (a .file .now) _ _ _ _ _ _ _ _ (i .5) (t .ensures) (omega arith) in (
+    let room = turn-room s (a .file .now) _ _ _ _ _ _ _ _ _ _ (i .5) (t .ensures) (omega arith) in (
       search needs,
       t .kept .0 ∙ i .1,
       t .kept .1 .1 .0 ∙ i .2,
       t .kept .1 .1 .1 .1 .1 .0 ∙ i .3,
       omega arith,
-      turn-state s (a .file .now) _ _ _ _ _ _ _ _ (i .5) (t .ensures),
-      turn-text s (a .file .now) _ _ _ _ _ _ _ _ (i .5) (t .ensures) _ (omega arith) (i .6),
+      turn-state s (a .file .now) _ _ _ _ _ _ _ _ _ _ (i .5) (t .ensures),
+      turn-text s (a .file .now) _ _ _ _ _ _ _ _ _ _ (i .5) (t .ensures) _ (omega arith) (i .6),
     )
 
 same-length : tie.Need-same-length Inv-loop μ-loop

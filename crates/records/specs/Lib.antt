@@ -1,2 +1,0 @@
--- What the functions of the work step leave.
-pub mod Leaves
