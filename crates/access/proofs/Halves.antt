@@ -1,4 +1,4 @@
--- An access that ends in its own half of memory lies in the image. Assumes nothing.
+-- The halves of memory, and what an access that is not bad keeps to. Assumes nothing.
 use mathlib.Core.Path.{_≡_}
 use mathlib.Core.Bool.{false}
 use Prim.Native.Nat.{ℕ, _+_, _-_, _≤_, _<_}
@@ -7,10 +7,7 @@ use lib.Dec.{ltb}
 use borrow.Author.Tests.{ltb-true, ltb-false, lt-ltb}
 use Rattle.bits.specs.Choice.{pick}
 use Rattle.bits.proofs.Tests.{split, bool-eq, either-l, either-r}
-use Rattle.model.specs.Map.{Image}
-use Rattle.model.specs.Pages.{placeOf}
 use Rattle.model.specs.Access.{halfEnd, isBadAccess}
-use Rattle.pages.proofs.Starts.{start-fits}
 
 pub half-ends : (address : ℕ) → halfEnd address ≤ 256
 unfolding halfEnd pick
@@ -19,12 +16,6 @@ half-ends address = split (ltb address 128) (λ e. rw (e, pick) (omega arith)) (
 pub half-holds : (address : ℕ) → address < 256 → address ≤ halfEnd address
 unfolding halfEnd pick
 half-holds address h = split (ltb address 128) (λ e. rw (e, pick) (omega (arith, ltb-true address 128 e))) (λ e. rw (e, pick) (omega arith))
-
-pub access-fits : (x : Image) (address n : ℕ) → address + n ≤ halfEnd address → placeOf x address + n ≤ 768
-unfolding placeOf halfEnd pick
-access-fits x address n h = split (ltb address 128)
-    (λ e. let l : address + n ≤ 128 = rw (e, pick) at h in rw (e, pick) (omega arith))
-    (λ e. let l : address + n ≤ 256 = rw (e, pick) at h in rw (e, pick) (omega (arith, ltb-false address 128 e, start-fits x)))
 
 -- an access that is not bad is one that may be read or written
 pub good-access : (limit address n : ℕ) → isBadAccess limit address n ≡ false → (n ≤ limit) × (address + n ≤ halfEnd address)

@@ -1,4 +1,2 @@
--- Host accesses: where they lie, and what each byte of a read and of a write leaves.
+-- The halves of memory.
 pub mod Halves
-pub mod Reading
-pub mod Writing

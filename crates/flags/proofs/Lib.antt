@@ -1,4 +1,2 @@
--- Flags against masks, the search for an unmasked flag bit, and the flag bytes of conditions.
-pub mod Unmasked
-pub mod Search
+-- The flag bytes of conditions.
 pub mod Conditions

@@ -1,9 +1,8 @@
-// Flags: conditions, samples of received power, and the interrupt bit.
+// Flags: conditions, and samples of received power.
 ghost use mathlib.Core.Path.{_≡_};
 ghost use Prim.Native.Nat.{_+_, _≤_, _<_};
 ghost use lib.ListN.{length};
-ghost use Rattle.model.specs.Flags.{isConditionFlag, conditionSet, power, raised, sampled, interrupts, settled};
-use bits::Place;
+ghost use Rattle.model.specs.Flags.{isConditionFlag, conditionSet, power, raised, sampled};
 
 // Page 11h: the flags that a sample may raise, and where samples are stored.
 const HIGH_ALARM_FLAG: u8 = 149;
@@ -15,13 +14,6 @@ const HIGH_WARNING_FLAG: u8 = 151;
 const LOW_WARNING_FLAG: u8 = 152;
 
 const RECEIVED_POWER: usize = map::PAGE_11 + (186 - 128);
-
-// The twenty flag bytes 11h:134-153, and their masks 10h:213-232.
-const FLAG_BYTES: usize = map::PAGE_11 + (134 - 128);
-
-const FLAG_MASKS: usize = map::PAGE_10 + (213 - 128);
-
-const FLAG_BYTE_COUNT: usize = 20;
 
 // Whether a condition may name a flag byte.
 pub fn is_condition_flag(flag: u8) -> bool
@@ -71,33 +63,4 @@ pub fn sample(image: &mut [u8], lane: u8, power: u16)
     raise(image, power < low_alarm, LOW_ALARM_FLAG, lane);
     raise(image, high_warning < power, HIGH_WARNING_FLAG, lane);
     raise(image, power < low_warning, LOW_WARNING_FLAG, lane);
-}
-
-// Whether the interrupt is due: the flags that no mask bit covers, all bytes gathered in one.
-pub fn interrupts(image: &[u8]) -> bool
-    requires { ⌜ length (now image) ≡ 768 ⌝ }
-    ensures { λ r. ⌜ r ≡ interrupts (now (image .entry)) ⌝ }
-{
-    let mut due = 0u8;
-    for k in 0..FLAG_BYTE_COUNT {
-        due = due | (image[FLAG_BYTES + k] & !image[FLAG_MASKS + k]);
-    }
-    due != 0
-}
-
-// Lower 3.0: 0 exactly while the interrupt is due.
-pub fn settle(image: &mut [u8])
-    requires { ⌜ length (now image) ≡ 768 ⌝ }
-    ensures { λ _. ⌜ now (image .exit) ≡ settled (now (image .entry)) ⌝ }
-{
-    let quiet = !interrupts(image);
-    bits::put(
-        image,
-        Place {
-            byte: map::MODULE_STATE,
-            shift: 0,
-            width: 1,
-        },
-        quiet as u8,
-    )
 }

@@ -20,8 +20,8 @@ pub fn write(image: &mut [u8], w: Working, address: u8, count: u8, bytes: [u8; 8
     if access::bad_access(access::WRITE_LIMIT, address, n) {
         return replies::reply(Answer::BadAccess, w);
     }
-    let written = access::write(image, w, address, &bytes[..n]);
-    flags::settle(image);
+    let written = writes::write(image, w, address, &bytes[..n]);
+    interrupt::settle(image);
     replies::reply(Answer::Done, written)
 }
 
@@ -37,7 +37,7 @@ pub fn read(image: &mut [u8], w: Working, address: u8, count: u8, buffer: &mut [
     if buffer.len() < n {
         return replies::reply(Answer::ShortBuffer, w);
     }
-    access::read(image, address, count, buffer);
-    flags::settle(image);
+    reads::read(image, address, count, buffer);
+    interrupt::settle(image);
     replies::reply(Answer::Done, w)
 }

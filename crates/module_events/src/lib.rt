@@ -27,7 +27,7 @@ pub fn work(image: &mut [u8], w: Working, lane: u8) -> Left
     }
     let worked = work::work(image, w, lane);
     let working = worked.working;
-    flags::settle(image);
+    interrupt::settle(image);
     Left {
         answer: Answer::Done,
         mask: worked.mask,
@@ -60,7 +60,7 @@ pub fn hardware(image: &mut [u8], w: Working, lane: u8) -> Left
         return replies::reply(Answer::NothingToDo, w);
     }
     moves::move_path(image, lane);
-    flags::settle(image);
+    interrupt::settle(image);
     replies::reply(Answer::Done, w)
 }
 
@@ -73,7 +73,7 @@ pub fn condition(image: &mut [u8], w: Working, flag: u8, mask: u8) -> Left
         return replies::reply(Answer::NoSuchPlace, w);
     }
     flags::condition(image, flag, mask);
-    flags::settle(image);
+    interrupt::settle(image);
     replies::reply(Answer::Done, w)
 }
 
@@ -86,6 +86,6 @@ pub fn sample(image: &mut [u8], w: Working, lane: u8, power: u16) -> Left
         return replies::reply(Answer::NoSuchPlace, w);
     }
     flags::sample(image, lane, power);
-    flags::settle(image);
+    interrupt::settle(image);
     replies::reply(Answer::Done, w)
 }

@@ -1,65 +1,15 @@
-// The hardware event that moves a path from state to state, by the signals that its lanes give.
+// The hardware event that moves a path from state to state, by its signals.
 ghost use mathlib.Core.Path.{_≡_};
-ghost use Prim.Native.Nat.{_+_, _≤_, _<_};
+ghost use Prim.Native.Nat.{_<_};
 ghost use lib.ListN.{length};
 ghost use Rattle.bits.specs.Choice.{onlyIf};
 ghost use Rattle.bits.specs.Sets.{has};
-ghost use Rattle.bits.specs.Lane.{laneField};
 ghost use Rattle.model.specs.Map.{stateChanged};
 ghost use Rattle.model.specs.PathStates.{resting};
 ghost use Rattle.model.specs.Work.{withPending};
-ghost use Rattle.model.specs.Hardware.{someBit, toDeinit, toReinit, toDeactivate, signalsOf, nextState, initialized, withFlags, entered, moved, hardwareMoved};
+ghost use Rattle.model.specs.Hardware.{nextState, initialized, withFlags, entered, moved, hardwareMoved};
 use model::path::PathState;
 use model::path::Signals;
-
-// Whether a lane of the set has its bit of a byte 1.
-pub fn some_bit(image: &[u8], at: usize, set: u8) -> bool
-    requires { ⌜ at + 1 ≤ length (now image) ⌝ }
-    ensures { λ r. ⌜ r ≡ someBit (now (image .entry)) (laneField at 1) set ⌝ }
-{
-    paths::meets(set, image[at])
-}
-
-// S: a DPDeinit bit of the path is 1.
-pub fn to_deinit(image: &[u8], path: u8) -> bool
-    requires { ⌜ length (now image) ≡ 768 ⌝ }
-    ensures { λ r. ⌜ r ≡ toDeinit (now (image .entry)) path ⌝ }
-{
-    some_bit(image, map::DEINIT, path)
-}
-
-// R: S, or a DPInitPending bit of the path is 1.
-pub fn to_reinit(image: &[u8], path: u8) -> bool
-    requires { ⌜ length (now image) ≡ 768 ⌝ }
-    ensures { λ r. ⌜ r ≡ toReinit (now (image .entry)) path ⌝ }
-{
-    to_deinit(image, path) | some_bit(image, map::PENDING, path)
-}
-
-// D: R, or an OutputDisableTx or OutputSquelchForceTx bit of the path is 1.
-pub fn to_deactivate(image: &[u8], path: u8) -> bool
-    requires { ⌜ length (now image) ≡ 768 ⌝ }
-    ensures { λ r. ⌜ r ≡ toDeactivate (now (image .entry)) path ⌝ }
-{
-    let disabled = some_bit(image, map::OUTPUT_DISABLE, path);
-    let squelched = some_bit(image, map::SQUELCH_FORCE, path);
-    to_reinit(image, path) | (disabled | squelched)
-}
-
-// The signals of a path.
-pub fn signals_of(image: &[u8], path: u8) -> Signals
-    requires { ⌜ length (now image) ≡ 768 ⌝ }
-    ensures { λ r. ⌜ r ≡ signalsOf (now (image .entry)) path ⌝ }
-{
-    let deinit = to_deinit(image, path);
-    let reinit = to_reinit(image, path);
-    let deactivate = to_deactivate(image, path);
-    Signals {
-        deinit,
-        reinit,
-        deactivate,
-    }
-}
 
 // The state that follows, by the path's signals.
 pub fn next_state(from: PathState, by: Signals) -> PathState
@@ -153,6 +103,6 @@ pub fn move_path(image: &mut [u8], lane: u8)
 {
     let path = paths::path_of(image, lane);
     let from = PathState::of(lanes::nibble(image, map::STATES, lane));
-    let to = next_state(from, signals_of(image, path));
+    let to = next_state(from, signals::signals_of(image, path));
     move_to(image, path, from, to);
 }

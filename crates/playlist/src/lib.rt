@@ -9,7 +9,7 @@ use turns::Run;
 pub fn play(image: &mut [u8], answers: &mut [u8], w: Working, events: &[Event]) -> Run
     ensures { λ r. ⌜ Leaves (listOutcome (state (now (image .entry)) w) (now (answers .entry)) (now (events .entry))) (r .left) (now (image .exit)) (now (answers .exit)) ⌝ }
 {
-    let mut r = turns::begin(image, answers, w, events.len());
+    let mut r = admission::begin(image, answers, w, events.len());
     while r.at < r.end {
         r = turns::turn(image, answers, r, events[r.at]);
     }

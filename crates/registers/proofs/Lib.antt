@@ -1,2 +1,2 @@
--- What the proofs of the calls cite.
-pub mod Entries
+-- What a call leaves once the refusals of its entry are known.
+pub mod Calls

@@ -1,30 +1,11 @@
 // The public calls: each answers every input, in the order 1, 2, 3, 4, 8, 5, 7, 6, and asks for soundness once.
-ghost use mathlib.Core.Path.{_≡_};
 ghost use mathlib.Core.List.{[]};
 ghost use Rattle.model.specs.Outcome.{Leaves, state, startOutcome, callOutcome};
-ghost use Rattle.model.specs.Refusals.{firstOf, entryRefusals};
 ghost use Rattle.model.specs.Step.{event};
 ghost use Rattle.model.specs.declared.event.Call.the-variants.{Write, Read, Work, Hardware, Condition, Sample};
 ghost use Rattle.replies.specs.Asked.{asked};
-use model::answer::Answer;
 use model::answer::Left;
 use model::lane::Working;
-
-// What is asked once of every call but start: the refusals 1, 2 and 3.
-pub fn entry(image: &[u8], w: Working) -> Answer
-    ensures { λ r. ⌜ r ≡ firstOf (entryRefusals (state (now (image .entry)) w)) ⌝ }
-{
-    if image.len() != map::IMAGE_LENGTH {
-        return Answer::WrongLength;
-    }
-    if startup::is_flat(image) {
-        return Answer::FlatMemory;
-    }
-    if !soundness::is_sound(image, w) {
-        return Answer::Unsound;
-    }
-    Answer::Done
-}
 
 // Start with an image: what stays of it, and all lanes idle.
 pub fn start(image: &mut [u8]) -> Left
@@ -43,7 +24,7 @@ pub fn start(image: &mut [u8]) -> Left
 pub fn write(image: &mut [u8], w: Working, address: u8, count: u8, bytes: [u8; 8]) -> Left
     ensures { λ r. ⌜ Leaves (callOutcome (state (now (image .entry)) w) [] (event (Write address count) bytes)) r (now (image .exit)) [] ⌝ }
 {
-    let answer = entry(image, w);
+    let answer = entry::refusal(image, w);
     if answer.number() != 0 {
         return replies::reply(answer, w);
     }
@@ -54,7 +35,7 @@ pub fn write(image: &mut [u8], w: Working, address: u8, count: u8, bytes: [u8; 8
 pub fn read(image: &mut [u8], w: Working, address: u8, count: u8, buffer: &mut [u8]) -> Left
     ensures { λ r. ⌜ Leaves (callOutcome (state (now (image .entry)) w) (now (buffer .entry)) (asked (Read address count))) r (now (image .exit)) (now (buffer .exit)) ⌝ }
 {
-    let answer = entry(image, w);
+    let answer = entry::refusal(image, w);
     if answer.number() != 0 {
         return replies::reply(answer, w);
     }
@@ -65,7 +46,7 @@ pub fn read(image: &mut [u8], w: Working, address: u8, count: u8, buffer: &mut [
 pub fn work(image: &mut [u8], w: Working, lane: u8) -> Left
     ensures { λ r. ⌜ Leaves (callOutcome (state (now (image .entry)) w) [] (asked (Work lane))) r (now (image .exit)) [] ⌝ }
 {
-    let answer = entry(image, w);
+    let answer = entry::refusal(image, w);
     if answer.number() != 0 {
         return replies::reply(answer, w);
     }
@@ -76,7 +57,7 @@ pub fn work(image: &mut [u8], w: Working, lane: u8) -> Left
 pub fn hardware(image: &mut [u8], w: Working, lane: u8) -> Left
     ensures { λ r. ⌜ Leaves (callOutcome (state (now (image .entry)) w) [] (asked (Hardware lane))) r (now (image .exit)) [] ⌝ }
 {
-    let answer = entry(image, w);
+    let answer = entry::refusal(image, w);
     if answer.number() != 0 {
         return replies::reply(answer, w);
     }
@@ -87,7 +68,7 @@ pub fn hardware(image: &mut [u8], w: Working, lane: u8) -> Left
 pub fn condition(image: &mut [u8], w: Working, flag: u8, mask: u8) -> Left
     ensures { λ r. ⌜ Leaves (callOutcome (state (now (image .entry)) w) [] (asked (Condition flag mask))) r (now (image .exit)) [] ⌝ }
 {
-    let answer = entry(image, w);
+    let answer = entry::refusal(image, w);
     if answer.number() != 0 {
         return replies::reply(answer, w);
     }
@@ -98,7 +79,7 @@ pub fn condition(image: &mut [u8], w: Working, flag: u8, mask: u8) -> Left
 pub fn sample(image: &mut [u8], w: Working, lane: u8, power: u16) -> Left
     ensures { λ r. ⌜ Leaves (callOutcome (state (now (image .entry)) w) [] (asked (Sample lane power))) r (now (image .exit)) [] ⌝ }
 {
-    let answer = entry(image, w);
+    let answer = entry::refusal(image, w);
     if answer.number() != 0 {
         return replies::reply(answer, w);
     }

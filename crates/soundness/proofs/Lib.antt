@@ -1,5 +1,2 @@
--- What the crate's proofs cite: tests as the code makes them, what a view has of each lane, whole paths, and the lanes of a group.
-pub mod Choices
-pub mod Lanes
-pub mod Wholes
-pub mod Groups
+-- The conditions of soundness as the code asks them of one lane.
+pub mod Conditions

@@ -1,31 +1,27 @@
 -- Laws of a list of events turn by turn: what its admission says, one turn more, and that the turns leave what the model's list leaves. Assumes nothing.
 use mathlib.Core.Path.{_≡_, refl, sym, ap, _∙_}
-use mathlib.Core.Bool.{true, false}
 use mathlib.Core.List.{List, [], _∷_, _++_}
 use Prim.Native.Nat.{ℕ, _+_, _≤_, _<_}
 use native.Mathlib.Numerals.{add-one}
 use native.Mathlib.Omega.{arith}
 use lib.ListN.{length, getD, set, take, drop, length-take, length-append, drop-of-length-le}
 use lib.Seq.{drop-cons, getD-take, append-snoc, set-at, take-length}
-use borrow.Author.Tests.{lt-ltb, le-ltb}
 use Rattle.bits.specs.Choice.{pick}
 use Rattle.bits.proofs.Tests.{split, pick-true, pick-false}
 use Rattle.model.specs.Map.{Image}
 use Rattle.model.specs.Answers.{number, isDone}
 use Rattle.model.specs.Triggers.{State}
 use Rattle.model.specs.Work.{early}
-use Rattle.model.specs.Refusals.{firstOf, entryRefusals, listRefusals}
+use Rattle.model.specs.Refusals.{firstOf, listRefusals}
 use Rattle.model.specs.Step.{step, run, ending}
 use Rattle.model.specs.Outcome.{Leaves, state, laidOver, stepOutcome, unchanged, listRoom, numbersOf, listBy, listOutcome}
 use Rattle.model.specs.declared.answer.Answer.{Answer}
-use Rattle.model.specs.declared.answer.Answer.the-variants.{Done, ShortBuffer}
 use Rattle.model.specs.declared.event.Call.the-variants.{Work}
 use Rattle.model.specs.declared.event.Event.{Event}
 use Rattle.model.specs.declared.lane.Working.{Working}
 use Rattle.model.specs.declared.answer.Left.{Left}
-use Rattle.laws_list.proofs.Admission.{list-refused, list-short, list-good, list-fits}
-use Rattle.turns.specs.Turns.{Playing, startRun, refusedRun, beginBy, beginOf, turnBy, turnOf, turnsOf, playedOf}
-use Rattle.turns.specs.declared.Run.{Run}
+use Rattle.laws_list.proofs.Admission.{list-fits}
+use Rattle.turns.specs.Turns.{Playing, beginBy, beginOf, turnBy, turnOf, turnsOf, playedOf}
 
 -- ---- the admission
 
@@ -136,25 +132,6 @@ played-leaves es x answers w s e = split (isDone (admission (length es) x answer
     }))
     (λ d. rw (e, pick-false (length es) 0 d, pick-false _ _ d)
     (record { answer = refl; image = refl; working = refl; buffer = refl; mask = refl }))
-
--- ---- from the code's tests
-
-module _ (n : ℕ) (x : Image) (answers : List ℕ) (w : Working) (r : Run) where
-  pub begin-refused : (a : Answer) → a ≡ firstOf (entryRefusals (state x w)) → isDone (firstOf (entryRefusals (state x w))) ≡ false → r ≡ refusedRun a w
-      → record { image = x; answers = answers; r = r } ≡ beginOf n x answers w
-  unfolding beginOf beginBy
-  begin-refused a e d h =
-      rw (h, e, list-refused (length answers) (state x w) n d, pick-false n 0 d)
-
-  pub begin-short : isDone (firstOf (entryRefusals (state x w))) ≡ true → length answers < n → r ≡ refusedRun ShortBuffer w
-      → record { image = x; answers = answers; r = r } ≡ beginOf n x answers w
-  unfolding beginOf beginBy isDone pick
-  begin-short d l h = rw (h, list-short (length answers) (state x w) n d (lt-ltb _ _ l))
-
-  pub begin-good : isDone (firstOf (entryRefusals (state x w))) ≡ true → n ≤ length answers → r ≡ startRun Done n w
-      → record { image = x; answers = answers; r = r } ≡ beginOf n x answers w
-  unfolding beginOf beginBy isDone pick
-  begin-good d l h = rw (h, list-good (length answers) (state x w) n d (le-ltb _ _ l))
 
 -- a turn from what its step left
 pub turn-leaves : (e : Event) (s : Playing) (l k : Left) (y buffer after : List ℕ) (room v : ℕ) → room ≡ listRoom → Leaves (stepOutcome (step early room (stateOf s) e) buffer) l y after

@@ -1,14 +1,14 @@
 -- `lanes::get_lane` meets its contract. Assumes nothing.
-use Rattle.bits.proofs.Lanes.{lane-fits}
-use borrow.Author.Needs.{needs}
+use native.Mathlib.Omega.{arith}
+use Rattle.lanes.proofs.Fits.{field-fits}
 use Rattle.lanes.proofs.get_lane.Statement.{statement}
 use Rattle.lanes.proofs.get_lane.Tie as tie
 
 lane-field-requires : tie.Need-lane-field-requires
-lane-field-requires c κs = search needs
+lane-field-requires c κs = let s = c .before in (omega arith, s .pre .1, s .pre .2)
 
 get-requires : tie.Need-get-requires
-get-requires c κs = let s = c .before .before in rw (c .lane-field .ensures) (lane-fits (s .args .base) (s .args .width) (s .args .lane) _ (s .pre .0) (s .pre .1) (s .pre .2))
+get-requires c κs = let s = c .before .before in field-fits (s .args .base) (s .args .width) (s .args .lane) _ _ (c .lane-field .ensures) (s .pre .0) (s .pre .1) (s .pre .2)
 
 returns : tie.Need-returns
 returns c = cc

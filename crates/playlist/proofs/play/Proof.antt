@@ -60,10 +60,10 @@ use Rattle.playlist.proofs.Again.{LentAgain, lends-at, back-at}
 use Rattle.turns.proofs.Laws.{none, begin-at, begin-end, begin-room, begin-length, turn-at, turn-end, turns-next, turns-end, played-leaves}
 use Rattle.turns.proofs.Run as R
 use Rattle.turns.proofs.Run.Laws as R′
-use Rattle.turns.proofs.begin as begin
-use Rattle.turns.proofs.begin.Symbol as begin-def
-use Rattle.turns.proofs.begin.Symbol.{name as #turns·begin}
-use Rattle.turns.proofs.begin.Met as begin-thm
+use Rattle.admission.proofs.begin as begin
+use Rattle.admission.proofs.begin.Symbol as begin-def
+use Rattle.admission.proofs.begin.Symbol.{name as #admission·begin}
+use Rattle.admission.proofs.begin.Met as begin-thm
 use Rattle.turns.proofs.turn as turn
 use Rattle.turns.proofs.turn.Symbol as turn-def
 use Rattle.turns.proofs.turn.Symbol.{name as #turns·turn}
@@ -243,7 +243,7 @@ module _ {M : Type 1} (𝓤 : URA M) (H : Heap 𝓤) (A : Atoms 𝓤) (W : Given
   abbrev Said : Playing → Event → Run → List ℕ → List ℕ → Type 0
   Said s e r ys us = _≡_ {A = Playing} (record { image = ys; answers = us; r = r }) (turnOf e s)
 
-  module _ (𝓣 : Tables 𝓤 H) (fm : FmC 𝓤 H (W .laws) (𝓣 .C)) (known-Begin : Triple 𝓤 (𝓣 .C #turns·begin) (Begin 𝓤 H A at-mem runs″)) (known-Turn : Triple 𝓤 (𝓣 .C #turns·turn) (Turn 𝓤 H A at-mem runs″)) (l₀ l₁ l₂ l₃ l₄ l₅ l₆ l₇ l₈ l₉ l₁₀ l₁₁ l₁₂ l₁₃ l₁₄ l₁₅ l₁₆ l₁₇ l₁₈ : ℕ) where
+  module _ (𝓣 : Tables 𝓤 H) (fm : FmC 𝓤 H (W .laws) (𝓣 .C)) (known-Begin : Triple 𝓤 (𝓣 .C #admission·begin) (Begin 𝓤 H A at-mem runs″)) (known-Turn : Triple 𝓤 (𝓣 .C #turns·turn) (Turn 𝓤 H A at-mem runs″)) (l₀ l₁ l₂ l₃ l₄ l₅ l₆ l₇ l₈ l₉ l₁₀ l₁₁ l₁₂ l₁₃ l₁₄ l₁₅ l₁₆ l₁₇ l₁₈ : ℕ) where
     abbrev C : Calls 𝓤 H
     C = 𝓣 .C
 
@@ -417,7 +417,7 @@ module _ {M : Type 1} (𝓤 : URA M) (H : Heap 𝓤) (A : Atoms 𝓤) (W : Given
         keep ! (2 ∷ 3 ∷ 0 ∷ 1 ∷ 7 ∷ 8 ∷ 9 ∷ 10 ∷ 11 ∷ 12 ∷ 13 ∷ 14 ∷ 15 ∷ 16 ∷ 17 ∷ 18 ∷ 19 ∷ 20 ∷ 21 ∷ 22 ∷ 23 ∷ 24 ∷ 25 ∷ 26 ∷ 27 ∷ 28 ∷ 29 ∷ 30 ∷ 31 ∷ 32 ∷ 33 ∷ 34 ∷ 35 ∷ 36 ∷ 37 ∷ 38 ∷ 39 ∷ 40 ∷ 41 ∷ 42 ∷ 43 ∷ 44 ∷ 45 ∷ 46 ∷ []) $ looped (began r (ls .0) (ls .1 .0) said len₀ len₁ (subst (Is R.the-row r) (LL.tells R.the-type R′.the-laws r _ fits) fits))))))))))))
 
   -- the MIR, from the entry
-  walk : (𝓣 : Tables 𝓤 H) → FmC 𝓤 H (W .laws) (𝓣 .C) → Triple 𝓤 (𝓣 .C #turns·begin) (Begin 𝓤 H A at-mem runs″) → Triple 𝓤 (𝓣 .C #turns·turn) (Turn 𝓤 H A at-mem runs″)
+  walk : (𝓣 : Tables 𝓤 H) → FmC 𝓤 H (W .laws) (𝓣 .C) → Triple 𝓤 (𝓣 .C #admission·begin) (Begin 𝓤 H A at-mem runs″) → Triple 𝓤 (𝓣 .C #turns·turn) (Turn 𝓤 H A at-mem runs″)
       → ent 𝓤 (onEntry 𝓤 H A play.signature (κ₀, (κ₁, (κ₂, tt))) (q₀, (q₁, (q₂, tt))) a at) (WpFn 𝓤 H (𝓣 .C) (𝓣 .Λ) code.function (v₀ ∷ v₁ ∷ val w₀ ∷ v₂ ∷ []) Post)
   walk 𝓣 fm known-Begin known-Turn =
       qed W ((‵ (flft κ₀ q₀) ⊛ ‵ (flft κ₁ q₁) ⊛ ‵ (flft κ₂ q₂) ⊛ ‵ ftrue) ∷ ‵ (owns (MutSlice (named 0) κ₀ u8 ∷ MutSlice (named 1) κ₁ u8 ∷ S.the-row ∷ ShrSlice (named 2) κ₂ E.the-row ∷ []) a at) ∷ []) ∵ enter ! (𝓣 .C) (𝓣 .Λ) code.function (v₀ ∷ v₁ ∷ val w₀ ∷ v₂ ∷ []) _ $
@@ -426,7 +426,7 @@ module _ {M : Type 1} (𝓤 : URA M) (H : Heap 𝓤) (A : Atoms 𝓤) (W : Given
       move ! (39 ∷ []) $ fsplit ! $ move ! (1 ∷ []) $ fsplit ! $ move ! (1 ∷ []) $ fsplit ! $ drop ! $ fsplit ! $ move ! (42 ∷ []) $ split ! $ move ! (1 ∷ []) $ split ! $ move ! (1 ∷ []) $ split ! $
       keep ! (7 ∷ 3 ∷ 6 ∷ 2 ∷ 4 ∷ 0 ∷ 8 ∷ 9 ∷ 10 ∷ 11 ∷ 12 ∷ 13 ∷ 14 ∷ 15 ∷ 16 ∷ 17 ∷ 18 ∷ 19 ∷ 20 ∷ 21 ∷ 22 ∷ 23 ∷ 24 ∷ 25 ∷ 26 ∷ 27 ∷ 28 ∷ 29 ∷ 30 ∷ 31 ∷ 32 ∷ 33 ∷ 34 ∷ 35 ∷ 36 ∷ 37 ∷ 38 ∷ 39 ∷ 40 ∷ 41 ∷ 42 ∷ 43 ∷ 44 ∷ 45 ∷ []) $ begins 𝓣 fm known-Begin known-Turn l₀ l₁ l₂ l₃ l₄ l₅ l₆ l₇ l₈ l₉ l₁₀ l₁₁ l₁₂ l₁₃ l₁₄ l₁₅ l₁₆ l₁₇ l₁₈)))))))))))))))))))
 
-module _ {M : Type 1} (𝓤 : URA M) (H : Heap 𝓤) (A : Atoms 𝓤) (W : Given 𝓤 H A) (mem : Memory → SProp 𝓤) (runs″ : Routine → Fun 𝓤) (𝓣 : Tables 𝓤 H) (known-begin : Triple 𝓤 (𝓣 .C #turns·begin) (Begin 𝓤 H A mem runs″)) (known-turn : Triple 𝓤 (𝓣 .C #turns·turn) (Turn 𝓤 H A mem runs″)) where
+module _ {M : Type 1} (𝓤 : URA M) (H : Heap 𝓤) (A : Atoms 𝓤) (W : Given 𝓤 H A) (mem : Memory → SProp 𝓤) (runs″ : Routine → Fun 𝓤) (𝓣 : Tables 𝓤 H) (known-begin : Triple 𝓤 (𝓣 .C #admission·begin) (Begin 𝓤 H A mem runs″)) (known-turn : Triple 𝓤 (𝓣 .C #turns·turn) (Turn 𝓤 H A mem runs″)) where
   play-walks : Walks 𝓤 H A play.ended stayed (WpFn 𝓤 H (𝓣 .C) (𝓣 .Λ) code.function) (play.clauses 𝓤 H A mem runs″)
   play-walks = walked 𝓤 H A play.ended stayed (play.clauses 𝓤 H A mem runs″) (WpFn 𝓤 H (𝓣 .C) (𝓣 .Λ) code.function)
       (λ κs. (slice-vals, (slice-vals, (LL.vals S.the-type S′.the-laws, (slice-vals, tt)))))
@@ -446,5 +446,5 @@ play-spec 𝓤 H 𝓜 𝓖 𝓡 =
     entered 𝓤 H (tripleOf 𝓤 H (𝓖 .A) play.signature (play.spec 𝓤 H (𝓖 .A) (𝓜 .mem) (𝓡 .run)))
     (tables 𝓤 H 𝓜 𝓡 code.env .C) (tables 𝓤 H 𝓜 𝓡 code.env .Λ) #playlist·play code.function (code.unfolded 𝓤 H 𝓜 𝓡)
     (play-meets 𝓤 H (𝓖 .A) (givenOf 𝓤 H 𝓜 𝓖) (𝓜 .mem) (𝓡 .run) (tablesOf 𝓤 H 𝓜 (tables 𝓤 H 𝓜 𝓡 code.env))
-    (cited 𝓤 H (Begin 𝓤 H (𝓖 .A) (𝓜 .mem) (𝓡 .run)) 𝓜 𝓡 code.env #turns·begin begin-def.routine code.calls-turns·begin (begin-thm.met 𝓤 H 𝓜 𝓖 𝓡))
+    (cited 𝓤 H (Begin 𝓤 H (𝓖 .A) (𝓜 .mem) (𝓡 .run)) 𝓜 𝓡 code.env #admission·begin begin-def.routine code.calls-admission·begin (begin-thm.met 𝓤 H 𝓜 𝓖 𝓡))
     (cited 𝓤 H (Turn 𝓤 H (𝓖 .A) (𝓜 .mem) (𝓡 .run)) 𝓜 𝓡 code.env #turns·turn turn-def.routine code.calls-turns·turn (turn-thm.met 𝓤 H 𝓜 𝓖 𝓡)))

@@ -1,7 +1,8 @@
 -- `registers::start` meets its contract. Assumes nothing.
 use borrow.Author.Needs.{needs}
 use Rattle.startup.proofs.Refusing.{taken-length}
-use Rattle.registers.proofs.Entries.{not-done, is-done, start-refused, start-done}
+use Rattle.entry.proofs.Entries.{not-done, is-done}
+use Rattle.registers.proofs.Calls.{start-refused, start-done}
 use Rattle.registers.proofs.start.Statement.{statement}
 use Rattle.registers.proofs.start.Tie as tie
 

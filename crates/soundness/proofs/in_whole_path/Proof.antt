@@ -1,6 +1,6 @@
 -- `soundness::in_whole_path` meets its contract. Assumes nothing.
 use borrow.Author.Needs.{needs}
-use Rattle.soundness.proofs.Wholes.{in-whole-by}
+use Rattle.soundness.proofs.Conditions.{in-whole-by}
 use native.Mathlib.Omega.{arith}
 use Rattle.soundness.proofs.in_whole_path.Statement.{statement}
 use Rattle.soundness.proofs.in_whole_path.Tie as tie

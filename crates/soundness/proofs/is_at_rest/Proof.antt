@@ -1,7 +1,7 @@
 -- `soundness::is_at_rest` meets its contract. Assumes nothing.
 use borrow.Author.Needs.{needs}
 use native.Mathlib.Omega.{arith}
-use Rattle.soundness.proofs.Lanes.{rest-by}
+use Rattle.soundness.proofs.Conditions.{rest-by}
 use Rattle.soundness.proofs.is_at_rest.Statement.{statement}
 use Rattle.soundness.proofs.is_at_rest.Tie as tie
 

@@ -1,6 +1,6 @@
 -- `soundness::is_lane_sound` meets its contract. Assumes nothing.
 use borrow.Author.Needs.{needs}
-use Rattle.soundness.proofs.Groups.{lane-sound-by}
+use Rattle.soundness.proofs.Conditions.{lane-sound-by}
 use Rattle.soundness.proofs.is_lane_sound.Statement.{statement}
 use Rattle.soundness.proofs.is_lane_sound.Tie as tie
 

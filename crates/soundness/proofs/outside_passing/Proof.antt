@@ -1,7 +1,7 @@
 -- `soundness::outside_passing` meets its contract. Assumes nothing.
 use borrow.Author.Needs.{needs}
 use mathlib.Core.Path.{sym, _∙_}
-use Rattle.soundness.proofs.Wholes.{outside-used, outside-unused}
+use Rattle.soundness.proofs.Conditions.{outside-used, outside-unused}
 use Rattle.soundness.proofs.outside_passing.Statement.{statement}
 use Rattle.soundness.proofs.outside_passing.Tie as tie
 

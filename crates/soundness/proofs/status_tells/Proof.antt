@@ -1,7 +1,7 @@
 -- `soundness::status_tells` meets its contract. Assumes nothing.
 use borrow.Author.Needs.{needs}
 use Rattle.model.specs.Sound.{statusTells}
-use Rattle.soundness.proofs.Choices.{same-by}
+use Rattle.soundness.proofs.Conditions.{same-by}
 use Rattle.soundness.proofs.status_tells.Statement.{statement}
 use Rattle.soundness.proofs.status_tells.Tie as tie
 

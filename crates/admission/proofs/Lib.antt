@@ -1,0 +1,2 @@
+-- The admission of a list.
+pub mod Admitted

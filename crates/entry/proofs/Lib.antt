@@ -1,0 +1,2 @@
+-- The refusals of an entry.
+pub mod Entries

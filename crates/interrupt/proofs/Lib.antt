@@ -1,0 +1,3 @@
+-- Flags against masks, and the search for an unmasked flag bit.
+pub mod Unmasked
+pub mod Search

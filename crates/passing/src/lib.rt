@@ -1,0 +1,148 @@
+// Condition (e) of soundness: a passing group, its purpose, its state, the lanes it has copied and those that are left.
+ghost use mathlib.Core.Path.{_≡_};
+ghost use Prim.Native.Nat.{_<_};
+ghost use lib.ListN.{length};
+ghost use Rattle.bits.specs.Sets.{maskOf};
+ghost use Rattle.model.specs.Map.{activeSet, stagedSet0};
+ghost use Rattle.model.specs.Lanes.{stageAt, heldIn};
+ghost use Rattle.model.specs.View.{viewOf, settingsAt, settingsOf, of, isUsed};
+ghost use Rattle.model.specs.Groups.{someIn};
+ghost use Rattle.model.specs.Work.{written};
+ghost use Rattle.model.specs.Sound.{hasPurpose, rests, sameSettings, holdsCopied, notCopied, restIsWhole, passingFits, groupFits};
+use map::ACTIVE_SET;
+use model::lane::LaneRecord;
+use model::lane::Settings;
+use model::lane::Stage;
+use model::lane::Verdict;
+use model::lane::Working;
+use model::path::PathState;
+
+// (e) a passing group is a release, or its held settings make a whole path of exactly its lanes.
+pub fn has_purpose(image: &[u8], w: Working, group: u8) -> bool
+    requires { ⌜ length (now image) ≡ 768 ⌝ }
+    ensures { λ r. ⌜ r ≡ hasPurpose (viewOf stagedSet0 (now (image .entry))) w group ⌝ }
+{
+    if stages::is_release(w, group) {
+        return true;
+    }
+    let first = sets::next_in(group, 0);
+    whole_paths::held_path(image, w, group, first, group)
+}
+
+// Its lanes agree on state 1, 4 or 7, on 1 for a release; an empty group has no state.
+pub fn rests(image: &[u8], w: Working, group: u8) -> bool
+    requires { ⌜ length (now image) ≡ 768 ⌝ }
+    ensures { λ r. ⌜ r ≡ rests (viewOf stagedSet0 (now (image .entry))) w group ⌝ }
+{
+    let first = sets::next_in(group, 0);
+    if first == LaneRecord::COUNT {
+        return false;
+    }
+    let state = lanes::nibble(image, map::STATES, first);
+    let resting = paths::is_resting(PathState::of(state));
+    let released = !stages::is_release(w, group) | (state == PathState::DEACTIVATED);
+    whole_paths::agree_on_state(image, group, first) & (resting & released)
+}
+
+// Whether two lanes' settings are the same, one by one.
+pub fn same_settings(h: Settings, k: Settings) -> bool
+    ensures { λ r. ⌜ r ≡ sameSettings h k ⌝ }
+{
+    (h.config == k.config)
+        & (h.adaptive == k.adaptive)
+        & (h.equalizer == k.equalizer)
+        & (h.cdr_tx == k.cdr_tx)
+        & (h.cdr_rx == k.cdr_rx)
+        & (h.pre == k.pre)
+        & (h.post == k.post)
+        & (h.amplitude == k.amplitude)
+}
+
+// Whether a lane's active settings are what the copying writes.
+pub fn is_copied(image: &[u8], w: Working, lane: u8) -> bool
+    requires { ⌜ (length (now image) ≡ 768) × (lane < 8) ⌝ }
+    ensures { λ r. ⌜ r ≡ sameSettings (settingsAt activeSet (now (image .entry)) lane) (written (heldIn (stageAt w lane))) ⌝ }
+{
+    let active = settings::settings_at(image, ACTIVE_SET, lane);
+    let held = stages::held_at(w, lane);
+    same_settings(active, settings::written(held))
+}
+
+// Its lanes before the next one hold what the copying writes.
+pub fn holds_copied(image: &[u8], w: Working, group: u8, n: u8) -> bool
+    requires { ⌜ length (now image) ≡ 768 ⌝ }
+    ensures { λ r. ⌜ r ≡ holdsCopied (viewOf stagedSet0 (now (image .entry))) w group n ⌝ }
+{
+    let mut all = true;
+    for lane in 0..8u8 {
+        let copied = is_copied(image, w, lane);
+        all = all & (!sets::is_in(group, lane) | (!(lane < n) | copied));
+    }
+    all
+}
+
+// The lanes of a group from the next one on.
+pub fn not_copied(group: u8, n: u8) -> u8
+    ensures { λ r. ⌜ r ≡ maskOf 8 (notCopied group n) ⌝ }
+{
+    let mut rest: u8 = 0;
+    for lane in 0..8u8 {
+        let left = sets::is_in(group, lane) & (n <= lane);
+        rest = sets::with_lane(rest, lane, left);
+    }
+    rest
+}
+
+// Whether a lane of a set is used.
+pub fn some_used(image: &[u8], set: u8) -> bool
+    requires { ⌜ length (now image) ≡ 768 ⌝ }
+    ensures { λ r. ⌜ r ≡ someIn set (λ m. isUsed (of (settingsOf activeSet (now (image .entry))) m)) ⌝ }
+{
+    let mut some = false;
+    for lane in 0..8u8 {
+        let used = paths::used_at(image, ACTIVE_SET, lane);
+        some = some | (sets::is_in(set, lane) & used);
+    }
+    some
+}
+
+// The rest of its lanes are all unused, or their whole path would be the group.
+pub fn rest_is_whole(image: &[u8], group: u8, n: u8) -> bool
+    requires { ⌜ length (now image) ≡ 768 ⌝ }
+    ensures { λ r. ⌜ r ≡ restIsWhole (viewOf stagedSet0 (now (image .entry))) group n ⌝ }
+{
+    let rest = not_copied(group, n);
+    if !some_used(image, rest) {
+        return true;
+    }
+    let first = sets::next_in(group, n);
+    whole_paths::active_path(image, rest, first, group)
+}
+
+// (e) of a group by its verdict.
+pub fn passing_fits(image: &[u8], w: Working, group: u8, verdict: Verdict) -> bool
+    requires { ⌜ length (now image) ≡ 768 ⌝ }
+    ensures { λ r. ⌜ r ≡ passingFits (viewOf stagedSet0 (now (image .entry))) w group verdict ⌝ }
+{
+    match verdict {
+        Verdict::Pass(n) => {
+            let meant = has_purpose(image, w, group) & rests(image, w, group);
+            meant & (holds_copied(image, w, group, n) & rest_is_whole(image, group, n))
+        }
+        Verdict::Reject(_) => true,
+    }
+}
+
+// (e) of a lane's group.
+pub fn group_fits(image: &[u8], w: Working, stage: Stage) -> bool
+    requires { ⌜ length (now image) ≡ 768 ⌝ }
+    ensures { λ r. ⌜ r ≡ groupFits (viewOf stagedSet0 (now (image .entry))) w stage ⌝ }
+{
+    match stage {
+        Stage::Idle => true,
+        Stage::InProgress(p) => {
+            let verdict = p.verdict;
+            passing_fits(image, w, p.group, verdict)
+        }
+    }
+}

@@ -1,0 +1,2 @@
+-- Where a read lies, and what each of its bytes leaves.
+pub mod Reading

@@ -1,0 +1,23 @@
+-- `signals::some_bit` meets its contract. Assumes nothing.
+use mathlib.Core.Path.{sym, ap, _∙_}
+use Rattle.bits.specs.Choice.{both}
+use Rattle.bits.proofs.Loops.{any-ext}
+use Rattle.model.specs.Groups.{someIn}
+use Rattle.model.specs.Hardware.{someBit}
+use Rattle.paths.proofs.Sets.{bit-has}
+use borrow.Author.Needs.{needs}
+use Rattle.signals.proofs.some_bit.Statement.{statement}
+use Rattle.signals.proofs.some_bit.Tie as tie
+
+shared-slice-read-meets : tie.Need-shared-slice-read-meets
+shared-slice-read-meets c = search needs
+
+meets-requires : tie.Need-meets-requires
+meets-requires c κs = search needs
+
+returns : tie.Need-returns
+unfolding someBit someIn
+returns c = c .meets .ensures ∙ any-ext 8 _ _ (λ m h. ap (both _) (sym (bit-has _ _ m h)))
+
+pub some-bit-spec : {M : Type 1} → statement M
+some-bit-spec = tie.close (tie.spec shared-slice-read-meets meets-requires returns)

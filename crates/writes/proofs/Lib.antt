@@ -1,0 +1,2 @@
+-- What each byte of a write leaves.
+pub mod Writing
