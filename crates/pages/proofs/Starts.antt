@@ -29,3 +29,7 @@ place-fits bank page =
 pub start-fits : (x : Image) → selectedStart x + 128 ≤ 768
 unfolding selectedStart
 start-fits x = place-fits (getD x 126 0) (getD x 127 0) .1
+
+pub start-past : (x : Image) → 128 ≤ selectedStart x
+unfolding selectedStart
+start-past x = place-fits (getD x 126 0) (getD x 127 0) .0

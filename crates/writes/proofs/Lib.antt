@@ -1,2 +1,3 @@
--- What each byte of a write leaves.
+-- What each byte of a write leaves, and a write that touches no trigger.
 pub mod Writing
+pub mod Putting

@@ -1,6 +1,5 @@
 -- A write, byte by byte. Assumes nothing.
-use mathlib.Core.Path.{_≡_, refl, sym, ap}
-use mathlib.Core.Bool.{Bool, true, false}
+use mathlib.Core.Path.{_≡_, sym, ap}
 use mathlib.Core.List.{List}
 use Prim.Native.Nat.{ℕ, _+_, _-_, _≤_, _<_}
 use native.Mathlib.Nat.{add-zero, add-suc}
@@ -9,10 +8,9 @@ use native.Mathlib.Omega.{arith}
 use lib.ListN.{length, getD, set, drop}
 use lib.Seq.{drop-cons, drop-length}
 use borrow.Rule.Slice.PartMut.{set-mid-at, mid-len, midOf, putMid}
-use Rattle.bits.specs.Choice.{pick}
 use Rattle.model.specs.Map.{Image}
 use Rattle.model.specs.Triggers.{State}
-use Rattle.model.specs.Access.{withImage, byteWritten, bytesWritten}
+use Rattle.model.specs.Access.{byteWritten, bytesWritten}
 use Rattle.model.specs.Outcome.{LeavesState, state}
 use Rattle.model.specs.declared.lane.Working.{Working}
 
@@ -22,12 +20,6 @@ pub part-set : (xs ys : List ℕ) (a n j v : ℕ) → a + n ≤ length xs → j 
 part-set xs ys a n j v l h e =
     let m : length (midOf a ((a + n) - a) xs) ≡ (a + n) - a = mid-len a (a + n) xs l in
     rw e (set-mid-at a ((a + n) - a) j xs v (omega arith))
-
--- an image stored into where the test holds, and the state with it
-pub stored-leaves : (b : Bool) (s : State) (y im : Image) → im ≡ pick b y (s .image) → LeavesState (pick b (withImage s y) s) im (s .working)
-unfolding pick
-stored-leaves true s y im e = record { image = e; working = refl }
-stored-leaves false s y im e = record { image = e; working = refl }
 
 -- what is left, as one state
 pub left-state : {s : State} {im : Image} {w : Working} → LeavesState s im w → state im w ≡ s

@@ -1,16 +1,17 @@
 // A host write: bytes in address order, the upper half on the page selected by then.
 ghost use mathlib.Core.Path.{_≡_};
-ghost use Prim.Native.Nat.{_+_, _≤_, _<_};
+ghost use Prim.Native.Nat.{_+_, _^_, _≤_, _<_};
 ghost use lib.ListN.{length, set};
 ghost use Rattle.bits.specs.Choice.{pick};
 ghost use Rattle.model.specs.Map.{writable};
 ghost use Rattle.model.specs.Access.{stored, byteWritten, bytesWritten, halfEnd};
 ghost use Rattle.model.specs.Outcome.{LeavesState, state};
+ghost use Rattle.writes.specs.Puts.{halfStart, meetsTriggers, bytePut, bytesPut};
 use model::lane::Trigger;
 use model::lane::Working;
 
 // A byte of a page's 128, which are lent as a part of the image.
-pub fn store_on_page(page: &mut [u8], offset: usize, v: u8)
+fn store_on_page(page: &mut [u8], offset: usize, v: u8)
     requires { ⌜ offset < length (now page) ⌝ }
     ensures { λ _. ⌜ now (page .exit) ≡ set (now (page .entry)) offset v ⌝ }
 {
@@ -18,7 +19,7 @@ pub fn store_on_page(page: &mut [u8], offset: usize, v: u8)
 }
 
 // A byte of the 128 that start at a place of the image: stored if it is writable.
-pub fn store(image: &mut [u8], start: usize, offset: usize, v: u8)
+fn store(image: &mut [u8], start: usize, offset: usize, v: u8)
     requires { ⌜ (length (now image) ≡ 768) × (start + 128 ≤ 768) × (offset < 128) ⌝ }
     ensures { λ _. ⌜ now (image .exit) ≡ pick (writable (start + offset)) (set (now (image .entry)) (start + offset) v) (now (image .entry)) ⌝ }
 {
@@ -28,40 +29,56 @@ pub fn store(image: &mut [u8], start: usize, offset: usize, v: u8)
     }
 }
 
+// A byte put at one of the 128 places from a start on, which is no trigger's.
+fn put_byte(image: &mut [u8], start: usize, offset: usize, v: u8)
+    requires { ⌜ (length (now image) ≡ 768) × (start + 128 ≤ 768) × (offset < 128) ⌝ }
+    ensures { λ _. ⌜ now (image .exit) ≡ bytePut (start + offset) v (now (image .entry)) ⌝ }
+{
+    if start + offset == pages::PAGE_SELECT {
+        pages::select_page(image, v);
+    } else {
+        store(image, start, offset, v);
+    }
+}
+
 // A byte written to one of the 128 places from a start on.
-pub fn write_at(image: &mut [u8], w: Working, start: usize, offset: usize, v: u8) -> Working
+fn write_at(image: &mut [u8], w: Working, start: usize, offset: usize, v: u8) -> Working
     requires { ⌜ (length (now image) ≡ 768) × (start + 128 ≤ 768) × (offset < 128) ⌝ }
     ensures { λ r. ⌜ LeavesState (stored (start + offset) v (state (now (image .entry)) w)) (now (image .exit)) r ⌝ }
 {
     let i = start + offset;
-    if i == pages::PAGE_SELECT {
-        pages::select_page(image, v);
-        return w;
-    }
     if i == map::APPLY_DP_INIT {
         return triggers::trigger(image, w, Trigger::DpInit, map::STAGED_SET_0, v);
     }
     if i == map::APPLY_IMMEDIATE {
         return triggers::trigger(image, w, Trigger::Immediate, map::STAGED_SET_0, v);
     }
-    store(image, start, offset, v);
+    put_byte(image, start, offset, v);
     w
 }
 
-// A byte written to an address: the upper half lies on the page selected now.
-pub fn write_byte(image: &mut [u8], w: Working, address: usize, v: u8) -> Working
+// Where the half of memory starts that an address lies in: the upper half lies on the page selected now.
+fn half_start(image: &[u8], address: usize) -> usize
+    requires { ⌜ length (now image) ≡ 768 ⌝ }
+    ensures { λ r. ⌜ r ≡ halfStart (now (image .entry)) address ⌝ }
+{
+    if address < 128 {
+        return 0;
+    }
+    pages::selected_start(image)
+}
+
+// A byte written to an address.
+fn write_byte(image: &mut [u8], w: Working, address: usize, v: u8) -> Working
     requires { ⌜ (length (now image) ≡ 768) × (address < 256) ⌝ }
     ensures { λ r. ⌜ LeavesState (byteWritten address v (state (now (image .entry)) w)) (now (image .exit)) r ⌝ }
 {
-    if address < 128 {
-        return write_at(image, w, 0, address, v);
-    }
-    let start = pages::selected_start(image);
-    write_at(image, w, start, address - 128, v)
+    let start = half_start(image, address);
+    write_at(image, w, start, address % 128, v)
 }
 
-// A write: its bytes, from an address on.
-pub fn write(image: &mut [u8], w: Working, address: u8, bytes: &[u8]) -> Working
+// A write, whatever its bytes touch.
+fn write_each(image: &mut [u8], w: Working, address: u8, bytes: &[u8]) -> Working
     requires { ⌜ (length (now image) ≡ 768) × (address + length (now bytes) ≤ halfEnd address) ⌝ }
     ensures { λ r. ⌜ LeavesState (bytesWritten address (now (bytes .entry)) (state (now (image .entry)) w)) (now (image .exit)) r ⌝ }
 {
@@ -70,4 +87,36 @@ pub fn write(image: &mut [u8], w: Working, address: u8, bytes: &[u8]) -> Working
         next = write_byte(image, next, (address as usize) + i, bytes[i]);
     }
     next
+}
+
+// Whether one of n places from i on is a trigger's.
+fn meets_triggers(i: usize, n: usize) -> bool
+    requires { ⌜ i + n < 2 ^ 64 ⌝ }
+    ensures { λ r. ⌜ r ≡ meetsTriggers i n ⌝ }
+{
+    (i <= map::APPLY_IMMEDIATE) & (map::APPLY_DP_INIT < i + n)
+}
+
+// The bytes of a write that touches no trigger: its half of memory starts where it did to the end.
+fn put_bytes(image: &mut [u8], start: usize, offset: usize, bytes: &[u8])
+    requires { ⌜ (length (now image) ≡ 768) × (start + 128 ≤ 768) × (offset + length (now bytes) ≤ 128) ⌝ }
+    ensures { λ _. ⌜ now (image .exit) ≡ bytesPut (start + offset) (now (bytes .entry)) (now (image .entry)) ⌝ }
+{
+    for i in 0..bytes.len() {
+        put_byte(image, start, offset + i, bytes[i]);
+    }
+}
+
+// A write: its bytes, from an address on. The lanes' records go along only where a trigger is touched.
+pub fn write(image: &mut [u8], w: Working, address: u8, bytes: &[u8]) -> Working
+    requires { ⌜ (length (now image) ≡ 768) × (address + length (now bytes) ≤ halfEnd address) ⌝ }
+    ensures { λ r. ⌜ LeavesState (bytesWritten address (now (bytes .entry)) (state (now (image .entry)) w)) (now (image .exit)) r ⌝ }
+{
+    let start = half_start(image, address as usize);
+    let offset = (address % 128) as usize;
+    if meets_triggers(start + offset, bytes.len()) {
+        return write_each(image, w, address, bytes);
+    }
+    put_bytes(image, start, offset, bytes);
+    w
 }

@@ -1,70 +1,71 @@
 -- `writes::write` meets its contract. Assumes nothing.
-use mathlib.Core.Path.{_≡_, _∙_}
-use Prim.Native.Nat.{_+_, _-_, _≤_}
 use native.Mathlib.Omega.{arith}
+use mathlib.Core.Path.{_≡_, refl, sym, _∙_}
+use mathlib.Core.Bool.{false}
 use denote.Ref.{now}
-use lib.ListN.{length, drop}
+use lib.ListN.{length}
+use Rattle.model.specs.Pages.{placeOf}
+use Rattle.writes.specs.Puts.{meetsTriggers}
+use Rattle.writes.proofs.Putting.{place-by, half-fits, offset-fits, untriggered}
 use borrow.Author.Needs.{needs}
-use Rattle.model.specs.Access.{bytesWritten}
-use Rattle.model.specs.Outcome.{state}
-use Rattle.access.proofs.Halves.{half-ends}
-use Rattle.writes.proofs.Writing.{left-state, state-left, write-begin, write-turn, write-end}
 use Rattle.writes.proofs.write.Statement.{statement}
 use Rattle.writes.proofs.write.Tie as tie
 
-abbrev Inv-loop : tie.InvT-loop
-Inv-loop image₀ address bytes next₀ i₀ i-end image next i =
-    (i ≤ length bytes) × (i-end ≡ length bytes) × (length image ≡ 768)
-    × (bytesWritten address bytes (state image₀ next₀) ≡ bytesWritten (address + i) (drop i bytes) (state image next))
+half-start-requires : tie.Need-half-start-requires
+half-start-requires c κs = search needs
 
-abbrev μ-loop : tie.MeasureT-loop
-μ-loop image₀ address bytes next₀ i₀ i-end image next i = length bytes - i
+cast-offset : tie.Need-cast-offset
+cast-offset c = search needs
 
-loop-holds : tie.Need-loop-holds Inv-loop μ-loop
-loop-holds c = (search needs, search needs, search needs, write-begin _ _ _)
+add-meets-triggers : tie.Need-add-meets-triggers
+add-meets-triggers c = let a = c .before .before .before .before .args in omega (arith, half-fits (now (a .image)) (a .address))
 
-add-write-byte : tie.Need-add-write-byte Inv-loop μ-loop
-add-write-byte c = omega (arith, half-ends (c .before .before .before .before .before .args .address))
+meets-triggers-requires : tie.Need-meets-triggers-requires
+meets-triggers-requires c κs =
+    let s = c .before .before .before .before in
+    omega (arith, half-fits (now (s .args .image)) (s .args .address), offset-fits (now (s .args .image)) (s .args .address) (length (now (s .args .bytes))) (s .pre .1))
 
-shared-slice-read-write-byte : tie.Need-shared-slice-read-write-byte Inv-loop μ-loop
-shared-slice-read-write-byte c = search needs
+write-each-requires : tie.Need-write-each-requires
+write-each-requires c κs = search needs
 
-write-byte-requires : tie.Need-write-byte-requires Inv-loop μ-loop
-write-byte-requires c κs = (search needs, omega (arith, half-ends (c .before .before .before .before .before .before .args .address)))
-
-add-i : tie.Need-add-i Inv-loop μ-loop
-add-i c = search needs
-
-loop-less : tie.Need-loop-less Inv-loop μ-loop
-loop-less c = search needs
-
-loop-again : tie.Need-loop-again Inv-loop μ-loop
-loop-again c =
-    let i = c .before .before .before .before .before .before .loop .inv in
-    let r = c .before .before .write-byte in
-    (search needs, i .1, r .kept .0 ∙ i .2, i .3 ∙ write-turn _ _ _ _ _ (omega arith) (left-state (r .ensures)))
-
-same-length : tie.Need-same-length Inv-loop μ-loop
+same-length : tie.Need-same-length
 same-length c = search needs
 
-returns : tie.Need-returns Inv-loop μ-loop
-returns c =
-    let a = c .before .before .before .before .args in
-    let e : c .before .loop .i ≡ length (now (a .bytes)) = omega arith in
-    state-left ((rw e at (c .before .loop .inv .3)) ∙ write-end (a .address) (now (a .bytes)) (state (c .before .loop .image) (c .before .loop .next)))
+returns : tie.Need-returns
+returns c = search needs
+
+put-bytes-requires : tie.Need-put-bytes-requires
+put-bytes-requires c κs =
+    let s = c .before .before .before .before .before .before .before in (
+      search needs,
+      omega (arith, half-fits (now (s .args .image)) (s .args .address)),
+      omega (arith, offset-fits (now (s .args .image)) (s .args .address) (length (now (s .args .bytes))) (s .pre .1)),
+    )
+
+same-length-2 : tie.Need-same-length-2
+same-length-2 c = search needs
+
+returns-2 : tie.Need-returns-2
+returns-2 c =
+    let s = c .before .before .before .before .before .before .before .before .before .before in
+    let a = s .args in
+    let h = c .before .before .before .before .before .before .half-start .ensures in
+    let p = place-by (now (a .image)) (a .address) (omega arith) in
+    let m : meetsTriggers (placeOf (now (a .image)) (a .address)) (length (now (a .bytes))) ≡ false = rw (← p, ← h) (sym (c .before .before .before .before .before .meets-triggers .ensures) ∙ c .before .before .before .before .if1 .left) in
+    rw (untriggered (a .address) (now (a .bytes)) (now (a .image)) (a .w) (s .pre .1) m)
+    (record { image = rw (← p, ← h) (c .before .before .put-bytes .ensures); working = refl })
 
 pub write-spec : {M : Type 1} → statement M
 write-spec =
     tie.close
     (tie.spec
-    Inv-loop
-    μ-loop
-    loop-holds
-    add-write-byte
-    shared-slice-read-write-byte
-    write-byte-requires
-    add-i
-    loop-less
-    loop-again
+    half-start-requires
+    cast-offset
+    add-meets-triggers
+    meets-triggers-requires
+    write-each-requires
     same-length
-    returns)
+    returns
+    put-bytes-requires
+    same-length-2
+    returns-2)

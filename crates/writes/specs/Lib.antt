@@ -1,0 +1,2 @@
+-- A write that touches no trigger, read by name.
+pub mod Puts
