@@ -3,12 +3,15 @@ use mathlib.Core.Path.{_≡_, sym, ap, _∙_, subst}
 use mathlib.Core.Logic.{_⊎_, inl, inr}
 use Prim.Native.Nat.{ℕ, zero, suc, _+_, _-_, _*_, _/_, _%_, _^_, _≤_, _<_}
 use native.Mathlib.Nat.{mod-lt, mod-eq-of-lt, div-one, add-assoc, add-comm, mul-assoc, add-mul, sub-add-cancel, zero-add, zero-mod, div-eq-of-lt, lt-of-lt-of-le}
-use native.Mathlib.Decide.{decLe}
+use native.Mathlib.Decide.{decLe, ℕ-discrete}
 use native.Mathlib.Omega.{arith}
 use lib.Arith.{digits-lt}
 use lib.Pow.{pow-pos, pow-mono, pow-add, shr-shr, shr-lt, split, high, low, mod-pow-add, mod-mod-pow}
 use lib.Pow as Pow
-use lib.Bits.{bitAnd, and-shr, and-mod}
+use lib.Bits.{bitAnd, bitOr, and-shr, and-mod, and-le-r, or-add-and, or-zero-l}
+use lib.Dec.{eqb}
+use borrow.Author.Tests.{ne-eqb}
+use Rattle.bits.specs.Choice.{both}
 use Rattle.bits.specs.Number.{field, withField}
 
 pub got-lt : (x s w : ℕ) → field x s w < 2 ^ w
@@ -182,3 +185,11 @@ number-ext x y h =
 pub digit-and : (a b l : ℕ) → field (bitAnd a b) l 1 ≡ bitAnd (field a l 1) (field b l 1)
 unfolding field
 digit-and a b l = rw (and-shr a b l, and-mod (a / 2 ^ l) (b / 2 ^ l) 1)
+
+-- `or` is zero exactly where both are
+pub or-none : (a c : ℕ) → eqb (bitOr a c) 0 ≡ both (eqb a 0) (eqb c 0)
+unfolding both
+or-none a c = elim (ℕ-discrete a 0) [
+  | yes e ↦ rw (e, or-zero-l c, both)
+  | no e ↦ rw (ne-eqb a 0 e, ne-eqb (bitOr a c) 0 (λ q. e (omega (arith, or-add-and a c, and-le-r a c))), both)
+]

@@ -1,13 +1,13 @@
 -- Flags against masks, all bits of a number at once. Assumes nothing.
-use mathlib.Core.Path.{_≡_, sym, ap, _∙_}
-use mathlib.Core.Bool.{false, not}
+use mathlib.Core.Path.{_≡_, refl, sym, ap, _∙_}
+use mathlib.Core.Bool.{Bool, true, false, not}
 use mathlib.Core.Logic.{_⊎_, inl, inr}
 use Prim.Native.Nat.{ℕ, zero, suc, _+_, _-_, _/_, _^_, _<_}
 use native.Mathlib.Nat.{not-suc-le-zero}
-use native.Mathlib.Decide.{decLt, ℕ-discrete}
+use native.Mathlib.Decide.{decLt}
 use native.Mathlib.Omega.{arith}
 use borrow.Author.Tests.{not-true, eqb-false, ne-eqb}
-use lib.Bits.{bitAnd, bitOr, and-le-l, and-le-r, or-add-and, or-zero-l}
+use lib.Bits.{bitAnd, bitOr, and-le-l}
 use lib.Dec.{eqb}
 use lib.Pow.{shr-shr}
 use Rattle.bits.specs.Choice.{both, either}
@@ -16,7 +16,7 @@ use Rattle.bits.specs.Number.{field}
 use Rattle.bits.specs.Sets.{has}
 use Rattle.bits.proofs.Loops.{any-none, any-find, any-ext}
 use Rattle.bits.proofs.Masks.{set-ext, has-none}
-use Rattle.bits.proofs.Number.{digit-zero-or-one, digit-and, lowest}
+use Rattle.bits.proofs.Number.{digit-zero-or-one, digit-and, lowest, or-none}
 use Rattle.bits.proofs.Tests.{split, clash, bool-eq}
 
 -- a digit above the lowest is one of the half
@@ -67,11 +67,9 @@ unmasked w f m h l =
 
 -- numbers gathered by `or` are zero exactly where each is
 pub or-nonzero : (a c : ℕ) → not (eqb (bitOr a c) 0) ≡ either (not (eqb a 0)) (not (eqb c 0))
-unfolding either
-or-nonzero a c = elim (ℕ-discrete a 0) [
-  | yes e ↦ rw (e, or-zero-l c)
-  | no e ↦ rw (
-    ne-eqb a 0 e,
-    ne-eqb (bitOr a c) 0 (λ q. e (omega (arith, or-add-and a c, and-le-r a c))),
-  )
-]
+unfolding both either
+or-nonzero a c = ap not (or-none a c) ∙ not-both (eqb a 0) (eqb c 0)
+  where
+    not-both : (p q : Bool) → not (both p q) ≡ either (not p) (not q)
+    not-both true q = refl
+    not-both false q = refl

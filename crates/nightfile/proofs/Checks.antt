@@ -1,5 +1,5 @@
 -- Laws of the check of a night file: its tests as code computes them, and what the check finds, in its order. Assumes nothing.
-use mathlib.Core.Path.{_≡_, refl, _∙_}
+use mathlib.Core.Path.{_≡_, refl, sym, ap, _∙_}
 use mathlib.Core.Bool.{Bool, true, false, _&&_}
 use mathlib.Core.List.{List}
 use Prim.Native.Nat.{ℕ, _+_, _*_, _≤_, _<_}
@@ -7,11 +7,13 @@ use native.Mathlib.Numerals.{add-one}
 use native.Mathlib.Omega.{arith}
 use lib.Dec.{eqb, leb, ltb}
 use lib.ListN.{length}
-use borrow.Author.Tests.{ltb-false, eqb-true, lt-ltb, le-ltb, le-leb, lt-leb, eq-eqb, ne-eqb}
-use Rattle.bits.specs.Choice.{pick, both, implies}
+use lib.Bits.{bitOr}
+use borrow.Author.Tests.{eqb-true, le-leb, lt-leb, eq-eqb, ne-eqb}
+use Rattle.bits.specs.Choice.{both, implies}
 use Rattle.bits.specs.Loop.{allBelow}
-use Rattle.bits.proofs.Tests.{split, clash, both-i, both-r, implies-i, pick-true, pick-false}
-use Rattle.bits.proofs.Loops.{all-at, all-intro}
+use Rattle.bits.proofs.Tests.{split, clash, both-i, both-r, pick-true, pick-false}
+use Rattle.bits.proofs.Number.{or-none}
+use Rattle.bits.proofs.Loops.{all-at}
 use Rattle.model.specs.Answers.{number, isDone}
 use Rattle.model.specs.Refusals.{firstOf, startRefusals}
 use Rattle.model.specs.File.{recordCount, isHeader, isWholeLength, imageIn, recordByte, usedBytes, isRecord, isWellFormed, foundBy, checked}
@@ -38,6 +40,11 @@ pub both-left : (a b : Bool) → a ≡ false → both a b ≡ false
 unfolding both
 both-left a b e = rw (e, both)
 
+both-true : (a : Bool) → both a true ≡ a
+unfolding both
+both-true true = refl
+both-true false = refl
+
 -- ---- a turn of a loop over all numbers below a count, and its end at one that fails
 pub all-turn : (n : ℕ) (p : ℕ → Bool) → allBelow n p ≡ true → p n ≡ true → allBelow (n + 1) p ≡ true
 unfolding allBelow
@@ -56,49 +63,28 @@ unfolding isWholeLength
 framed-length file e = eqb-true _ _ (both-r _ _ e)
 
 -- ---- records
-pick-most : (b : Bool) (x y m : ℕ) → x ≤ m → y ≤ m → pick b x y ≤ m
-unfolding pick
-pick-most true x y m h g = h
-pick-most false x y m h g = g
-
-data-most : (n : ℕ) → pick (ltb 8 n) 8 n ≤ 8
-unfolding pick
-data-most n = split (ltb 8 n) (λ e. rw (e, pick) (omega arith)) (λ e. rw (e, pick) (ltb-false 8 n e))
-
 -- byte j of record k is 0 if it is not used
 abbrev pub isClear : List ℕ → ℕ → ℕ → Bool
 isClear file k j = implies (leb (usedBytes file k) j) (eqb (recordByte file k j) 0)
 
 module _ (file : List ℕ) (k : ℕ) where
-  -- a record's kind uses at most eleven of its bytes
-  pub used-most : usedBytes file k ≤ 11
-  unfolding usedBytes
-  used-most =
-      pick-most _ _ _ _ (omega (arith, data-most (recordByte file k 2)))
-      (pick-most _ _ _ _ (omega arith)
-      (pick-most _ _ _ _ (omega arith)
-      (pick-most _ _ _ _ (omega arith)
-      (pick-most _ _ _ _ (omega arith)
-      (pick-most _ _ _ _ (omega arith) (omega arith))))))
+  -- the bytes that are not used, gathered: 0 exactly while each of them is
+  pub clear-begin : eqb 0 0 ≡ allBelow 0 (isClear file k)
+  unfolding allBelow
+  clear-begin = refl
 
-  pub unlisted : usedBytes file k ≡ 0 → isRecord file k ≡ false
+  pub clear-more : (j rest : ℕ) → eqb rest 0 ≡ allBelow j (isClear file k) → usedBytes file k ≤ j
+      → eqb (bitOr rest (recordByte file k j)) 0 ≡ allBelow (j + 1) (isClear file k)
+  unfolding allBelow implies
+  clear-more j rest h u = rw (add-one, or-none rest (recordByte file k j), h, le-leb _ _ u, implies)
+
+  pub clear-used : (j rest : ℕ) → eqb rest 0 ≡ allBelow j (isClear file k) → j < usedBytes file k → eqb rest 0 ≡ allBelow (j + 1) (isClear file k)
+  unfolding allBelow implies
+  clear-used j rest h u = rw (add-one, h, lt-leb _ _ u, implies) (sym (both-true _))
+
+  pub record-by : (used rest : ℕ) → used ≡ usedBytes file k → eqb rest 0 ≡ allBelow 12 (isClear file k) → (ltb 0 used && eqb rest 0) ≡ isRecord file k
   unfolding isRecord
-  unlisted e = both-left _ _ (le-ltb 0 (usedBytes file k) (omega arith))
-
-  pub soiled : (j : ℕ) → j < 12 → usedBytes file k ≤ j → (recordByte file k j ≡ 0 → ⊥) → isRecord file k ≡ false
-  unfolding isRecord implies
-  soiled j h u n = both-right _ _ (all-fails 12 j (isClear file k) h (rw (le-leb _ _ u, implies) (ne-eqb _ _ n)))
-
-  pub clean : 0 < usedBytes file k → allBelow 12 (isClear file k) ≡ true → isRecord file k ≡ true
-  unfolding isRecord
-  clean h a = both-i (lt-ltb _ _ h) a
-
-  pub clear-used : allBelow (usedBytes file k) (isClear file k) ≡ true
-  unfolding implies
-  clear-used = all-intro _ _ (λ j h. rw (lt-leb (usedBytes file k) j h, implies))
-
-  pub clear-zero : (j : ℕ) → recordByte file k j ≡ 0 → isClear file k j ≡ true
-  clear-zero j e = implies-i _ _ (λ h. eq-eqb _ _ e)
+  record-by used rest e h = and-both (ap (ltb 0) e) h
 
 -- ---- what the check finds
 module _ (file : List ℕ) where

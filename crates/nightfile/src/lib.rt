@@ -102,21 +102,19 @@ fn used_bytes(file: &[u8], k: u32) -> usize
     }
 }
 
-// Whether a record is of a listed kind, with zeros in the bytes that it does not use.
+// Whether a record is of a listed kind, with zeros in the bytes that it does not use: those are gathered in one byte, without a branch that depends on them.
 fn is_record(file: &[u8], k: u32) -> bool
     requires { ⌜ 784 + 12 * k + 12 ≤ length (now file) ⌝ }
     ensures { λ r. ⌜ r ≡ isRecord (now (file .entry)) k ⌝ }
 {
     let used = used_bytes(file, k);
-    if used == 0 {
-        return false;
-    }
-    for j in used..RECORD_LENGTH {
-        if record_byte(file, k, j) != 0 {
-            return false;
+    let mut rest = 0u8;
+    for j in 0..RECORD_LENGTH {
+        if used <= j {
+            rest = rest | record_byte(file, k, j);
         }
     }
-    true
+    (0 < used) & (rest == 0)
 }
 
 // Whether every record is one.

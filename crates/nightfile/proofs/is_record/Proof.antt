@@ -1,37 +1,29 @@
--- `nightfile::is_record` meets its contract. The loop's invariant: the bytes passed are used or 0. Assumes nothing.
+-- `nightfile::is_record` meets its contract. The loop's invariant: what is gathered is 0 exactly while the bytes passed are used or 0. Assumes nothing.
 use native.Mathlib.Omega.{arith}
-use mathlib.Core.Path.{_≡_, sym, _∙_}
-use mathlib.Core.Bool.{true}
+use mathlib.Core.Path.{_≡_}
+use mathlib.Core.Logic.{⊎-elim}
 use Prim.Native.Nat.{_-_, _≤_}
+use lib.Dec.{eqb}
 use Rattle.bits.specs.Loop.{allBelow}
-use Rattle.nightfile.proofs.Checks.{all-turn, isClear, used-most, unlisted, soiled, clean, clear-used, clear-zero}
+use Rattle.nightfile.proofs.Checks.{isClear, clear-begin, clear-more, clear-used, record-by}
 use borrow.Author.Needs.{needs}
 use Rattle.nightfile.proofs.is_record.Statement.{statement}
 use Rattle.nightfile.proofs.is_record.Tie as tie
 
 abbrev Inv-loop : tie.InvT-loop
-Inv-loop file k used j₀ j = (used ≤ j) × (j ≤ 12) × (allBelow j (isClear file k) ≡ true)
+Inv-loop file k used rest₀ j₀ rest j = (j ≤ 12) × (eqb rest 0 ≡ allBelow j (isClear file k))
 
 abbrev μ-loop : tie.MeasureT-loop
-μ-loop file k used j₀ j = 12 - j
+μ-loop file k used rest₀ j₀ rest j = 12 - j
 
 used-bytes-requires : tie.Need-used-bytes-requires Inv-loop μ-loop
 used-bytes-requires c κs = search needs
 
-returns : tie.Need-returns Inv-loop μ-loop
-returns c = sym (unlisted _ _ (sym (c .before .used-bytes .ensures) ∙ c .if1 .taken))
-
 loop-holds : tie.Need-loop-holds Inv-loop μ-loop
-loop-holds c =
-    let a = c .before .before .before .args in
-    (search needs, omega (arith, used-most (a .file .now) (a .k)), rw (c .before .used-bytes .ensures) (clear-used (a .file .now) (a .k)))
+loop-holds c = (search needs, clear-begin _ _)
 
 record-byte-requires : tie.Need-record-byte-requires Inv-loop μ-loop
 record-byte-requires c κs = search needs
-
-returns-2 : tie.Need-returns-2 Inv-loop μ-loop
-returns-2 c =
-    sym (soiled _ _ (c .before .before .before .loop .j) (omega arith) (omega arith) (λ e. c .if2 .taken (c .before .record-byte .ensures ∙ e)))
 
 add-j : tie.Need-add-j Inv-loop μ-loop
 add-j c = search needs
@@ -41,12 +33,19 @@ loop-less c = search needs
 
 loop-again : tie.Need-loop-again Inv-loop μ-loop
 loop-again c =
-    (omega arith, omega arith, all-turn _ _ (c .before .before .before .loop .inv .2) (clear-zero _ _ _ (sym (c .before .record-byte .ensures) ∙ c .if2 .left)))
+    let a = c .before .before .before .before .before .args in
+    let l = c .before .before .loop in
+    let used = c .before .before .before .used-bytes .ensures in
+    ⊎-elim
+    (λ w. (omega arith, rw (w .2, w .1 .ensures) (clear-more (a .file .now) (a .k) (l .j) (l .rest) (l .inv .1) (rw used at (w .0 .taken)))))
+    (λ w. (omega arith, rw (w .1) (clear-used (a .file .now) (a .k) (l .j) (l .rest) (l .inv .1) (rw used at (w .0 .left)))))
+    (c .if1 .came)
 
-returns-3 : tie.Need-returns-3 Inv-loop μ-loop
-returns-3 c =
+returns : tie.Need-returns Inv-loop μ-loop
+returns c =
     let e : c .before .loop .j ≡ 12 = omega arith in
-    sym (clean _ _ (omega arith) (rw e at (c .before .loop .inv .2)))
+    let a = c .before .before .before .before .args in
+    record-by (a .file .now) (a .k) _ (c .before .loop .rest) (c .before .before .used-bytes .ensures) (rw e at (c .before .loop .inv .1))
 
 pub is-record-spec : {M : Type 1} → statement M
 is-record-spec =
@@ -55,11 +54,9 @@ is-record-spec =
     Inv-loop
     μ-loop
     used-bytes-requires
-    returns
     loop-holds
     record-byte-requires
-    returns-2
     add-j
     loop-less
     loop-again
-    returns-3)
+    returns)
