@@ -26,7 +26,7 @@ use Rattle.model.specs.Groups.{groupOf, firstIn, someIn}
 use Rattle.model.specs.Verdicts.{verdictOf}
 use Rattle.model.specs.Triggers.{withStatus, isMarked, markedStage, stageAfter, marked, isIgnored, triggered}
 use Rattle.model.specs.Outcome.{LeavesState, state}
-use Rattle.model.specs.declared.lane.Settings.{Settings}
+use Rattle.model.specs.declared.lane.LaneRecord.{LaneRecord}
 use Rattle.model.specs.declared.lane.Trigger.{Trigger}
 use Rattle.model.specs.declared.lane.Verdict.{Verdict}
 use Rattle.model.specs.declared.lane.Verdict.the-variants.{Pass}
@@ -61,14 +61,13 @@ first-none : firstIn 0 ≡ 8
 unfolding nextIn seek pick has field
 first-none = refl
 
+-- the verdict on no group
+pub judged-none : (t : Trigger) (base : ℕ) (x : Image) → Pass 8 ≡ verdictOf t (viewOf base x) 0
+judged-none t base x = ap Pass (sym first-none) ∙ verdict-none t base x 0 (omega (arith, first-none))
+
 pub mark-begin : (t : Trigger) (base : ℕ) (x : Image) (w : Working) (selected : ℕ)
-    → Marks t (viewOf base x) w selected 0 (record { working = w; marked = 0; group = 0; verdict = Pass 8 })
-mark-begin t base x w selected =
-    record {
-      lanes = each-begin _ _ (w .lanes);
-      marked = mask-begin _;
-      judged = ap Pass (sym first-none) ∙ verdict-none t base x 0 (omega (arith, first-none));
-    }
+    → Marks t (viewOf base x) w selected 0 (record { working = w; marked = 0 })
+mark-begin t base x w selected = record { lanes = each-begin _ _ (w .lanes); marked = mask-begin _ }
 
 module _ (t : Trigger) (base : ℕ) (x : Image) (w : Working) (selected n : ℕ) (m : Marking) where
   pub mark-pass : isMarked (viewOf base x) w selected n ≡ false → Marks t (viewOf base x) w selected n m → Marks t (viewOf base x) w selected (n + 1) m
@@ -76,35 +75,24 @@ module _ (t : Trigger) (base : ℕ) (x : Image) (w : Working) (selected n : ℕ)
       record {
         lanes = each-pass _ _ n (w .lanes) (m .working .lanes) (h .lanes) e;
         marked = h .marked ∙ mask-pass _ n e;
-        judged = h .judged;
       }
 
   -- the record that a marked lane is given
-  stage-by : (g : ℕ) (held : Settings) (d : Verdict) → n < 8 → g ≡ groupOf (viewOf base x) selected n → held ≡ settingsAt base x n
-      → d ≡ verdictOf t (viewOf base x) g
-      → InProgress (record { group = g; held = held; trigger = t; verdict = d }) ≡ markedStage t (viewOf base x) selected n
+  record-by : (g : ℕ) (d : Verdict) (own : LaneRecord) → n < 8 → g ≡ groupOf (viewOf base x) selected n → d ≡ verdictOf t (viewOf base x) g
+      → own ≡ record { stage = InProgress (record { group = g; held = settingsAt base x n; trigger = t; verdict = d }) }
+      → own ≡ record { stage = markedStage t (viewOf base x) selected n }
   unfolding markedStage viewOf
-  stage-by g held d b p q r = rw (r, p, q, settings-of base x n b)
+  record-by g d own b p q r = rw (r, q, p, settings-of base x n b)
 
-  pub mark-turn : (g k : ℕ) (held : Settings) (d : Verdict) → n < 8 → isMarked (viewOf base x) w selected n ≡ true → Marks t (viewOf base x) w selected n m
-      → g ≡ groupOf (viewOf base x) selected n → held ≡ settingsAt base x n → d ≡ verdictOf t (viewOf base x) g → k ≡ withField (m .marked) n 1 (boolByte true)
-      → Marks t (viewOf base x) w selected (n + 1)
-      (record {
-        working =
-            record {
-              lanes =
-                  set (m .working .lanes) n
-                  (record { stage = InProgress (record { group = g; held = held; trigger = t; verdict = d }) });
-            };
-        marked = k;
-        group = g;
-        verdict = d;
-      })
-  mark-turn g k held d b e h p q r s =
+  pub mark-turn : (g : ℕ) (d : Verdict) (own : LaneRecord) (k : ℕ) → n < 8 → isMarked (viewOf base x) w selected n ≡ true
+      → Marks t (viewOf base x) w selected n m → g ≡ groupOf (viewOf base x) selected n → d ≡ verdictOf t (viewOf base x) g
+      → own ≡ record { stage = InProgress (record { group = g; held = settingsAt base x n; trigger = t; verdict = d }) }
+      → k ≡ withField (m .marked) n 1 (boolByte true)
+      → Marks t (viewOf base x) w selected (n + 1) (record { working = record { lanes = set (m .working .lanes) n own }; marked = k })
+  mark-turn g d own k b e h p q r s =
       record {
-        lanes = rw (stage-by g held d b p q r) (each-turn _ _ n (w .lanes) (m .working .lanes) (h .lanes) e);
+        lanes = rw (record-by g d own b p q r) (each-turn _ _ n (w .lanes) (m .working .lanes) (h .lanes) e);
         marked = mask-turn _ n (m .marked) k true (h .marked) (sym e) s;
-        judged = r;
       }
 
 -- ---- all lanes

@@ -5,14 +5,12 @@ use lib.ListN.{set}
 use Rattle.bits.specs.Loop.{each}
 use Rattle.bits.specs.Sets.{maskOf}
 use Rattle.model.specs.View.{View}
-use Rattle.model.specs.Verdicts.{verdictOf}
 use Rattle.model.specs.Triggers.{isMarked, markedStage}
 use Rattle.model.specs.declared.lane.Trigger.{Trigger}
 use Rattle.model.specs.declared.lane.Working.{Working}
 use Rattle.triggers.specs.declared.Marking.{Marking}
 
--- the lanes below n that are to be marked have their records, and the verdict kept is that on the group kept
+-- the lanes below n that are to be marked have their records, and the set is of them
 pub record Marks (t : Trigger) (v : View) (w : Working) (selected n : ℕ) (m : Marking) : Type 0 where
   pub lanes : m .working .lanes ≡ each (isMarked v w selected) (λ l rs. set rs l (record { stage = markedStage t v selected l })) n (w .lanes)
   pub marked : m .marked ≡ maskOf n (isMarked v w selected)
-  pub judged : m .verdict ≡ verdictOf t v (m .group)

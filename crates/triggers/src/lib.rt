@@ -4,10 +4,11 @@ ghost use Prim.Native.Nat.{_+_, _≤_, _<_};
 ghost use lib.ListN.{length};
 ghost use Rattle.bits.specs.Sets.{maskOf};
 ghost use Rattle.model.specs.Lanes.{stageAt, isInProgress};
-ghost use Rattle.model.specs.View.{viewOf};
+ghost use Rattle.model.specs.View.{settingsAt, viewOf};
 ghost use Rattle.model.specs.Verdicts.{verdictOf};
 ghost use Rattle.model.specs.Triggers.{isIgnored, triggered};
 ghost use Rattle.model.specs.Outcome.{LeavesState, state};
+ghost use Rattle.model.specs.declared.lane.Stage.the-variants.{InProgress};
 ghost use Rattle.triggers.specs.Marks.{Marks};
 use model::lane::LaneRecord;
 use model::lane::Progress;
@@ -20,12 +21,10 @@ use model::status::Status;
 // Lower byte 2, whose bit 6 is SteppedConfigOnly.
 const CHARACTERISTICS: usize = 2;
 
-// What marking has come to: the records, the lanes marked, and the last group judged with its verdict, which the group's other lanes share.
+// What marking has come to: the records and the lanes marked.
 pub struct Marking {
     pub working: Working,
     pub marked: u8,
-    pub group: u8,
-    pub verdict: Verdict,
 }
 
 // The lanes in progress.
@@ -72,47 +71,26 @@ fn judge(
     verdicts::verdict_of(image, base, kind, group)
 }
 
-// One more lane: marked if it is selected and no lane of its group is in progress already.
-fn mark_lane(
+// The record of a marked lane.
+fn marked_record(
     image: &[u8],
-    w: Working,
     kind: Trigger,
     base: usize,
-    selected: u8,
     lane: u8,
-    m: Marking,
-) -> Marking
-    requires { ⌜ (length (now image) ≡ 768) × (base + 29 ≤ 768) × (lane < 8) × Marks kind (viewOf base (now image)) w selected lane m ⌝ }
-    ensures { λ r. ⌜ Marks kind (viewOf base (now (image .entry))) w selected (lane + 1) r ⌝ }
+    group: u8,
+    verdict: Verdict,
+) -> LaneRecord
+    requires { ⌜ (base + 29 ≤ length (now image)) × (lane < 8) ⌝ }
+    ensures { λ r. ⌜ r ≡ record { stage = InProgress (record { group = group; held = settingsAt base (now (image .entry)) lane; trigger = kind; verdict = verdict }) } ⌝ }
 {
-    if !sets::is_in(selected, lane) {
-        return m;
-    }
-    let busy = busy_lanes(w);
-    let group = groups::group_of(image, base, selected, lane);
-    if paths::meets(group, busy) {
-        return m;
-    }
-    let last = m.verdict;
-    let verdict = judge(image, base, kind, group, m.group, last);
     let held = settings::settings_at(image, base, lane);
-    let own = LaneRecord {
+    LaneRecord {
         stage: Stage::InProgress(Progress {
             group,
             held,
             trigger: kind,
             verdict,
         }),
-    };
-    let mut working = m.working;
-    let i = lane as usize;
-    working.lanes[i] = own;
-    let marked = sets::with_lane(m.marked, lane, true);
-    Marking {
-        working,
-        marked,
-        group,
-        verdict,
     }
 }
 
@@ -121,16 +99,25 @@ fn mark(image: &[u8], w: Working, kind: Trigger, base: usize, selected: u8) -> M
     requires { ⌜ (length (now image) ≡ 768) × (base + 29 ≤ 768) ⌝ }
     ensures { λ r. ⌜ Marks kind (viewOf base (now (image .entry))) w selected 8 r ⌝ }
 {
-    let mut m = Marking {
-        working: w,
-        marked: 0,
-        group: 0,
-        verdict: Verdict::Pass(LaneRecord::COUNT),
-    };
+    let busy = busy_lanes(w);
+    let mut working = w;
+    let mut marked = 0u8;
+    let mut last = 0u8;
+    let mut verdict = Verdict::Pass(LaneRecord::COUNT);
     for lane in 0..8u8 {
-        m = mark_lane(image, w, kind, base, selected, lane, m);
+        if sets::is_in(selected, lane) {
+            let group = groups::group_of(image, base, selected, lane);
+            if !paths::meets(group, busy) {
+                verdict = judge(image, base, kind, group, last, verdict);
+                last = group;
+                let own = marked_record(image, kind, base, lane, group, verdict);
+                let i = lane as usize;
+                working.lanes[i] = own;
+                marked = sets::with_lane(marked, lane, true);
+            }
+        }
     }
-    m
+    Marking { working, marked }
 }
 
 // A trigger of the staged set at a base, for the selected lanes.
