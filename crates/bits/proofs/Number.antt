@@ -2,13 +2,13 @@
 use mathlib.Core.Path.{_≡_, sym, ap, _∙_, subst}
 use mathlib.Core.Logic.{_⊎_, inl, inr}
 use Prim.Native.Nat.{ℕ, zero, suc, _+_, _-_, _*_, _/_, _%_, _^_, _≤_, _<_}
-use native.Mathlib.Nat.{mod-lt, mod-eq-of-lt, div-one, add-assoc, add-comm, mul-assoc, add-mul, sub-add-cancel, zero-add, zero-mod, div-eq-of-lt, lt-of-lt-of-le}
+use native.Mathlib.Nat.{mod-lt, mod-eq-of-lt, div-one, add-assoc, add-comm, mul-assoc, add-mul, sub-add-cancel, zero-add, zero-mod, div-eq-of-lt, lt-of-lt-of-le, not-suc-le-zero}
 use native.Mathlib.Decide.{decLe, ℕ-discrete}
 use native.Mathlib.Omega.{arith}
 use lib.Arith.{digits-lt}
 use lib.Pow.{pow-pos, pow-mono, pow-add, shr-shr, shr-lt, split, high, low, mod-pow-add, mod-mod-pow}
 use lib.Pow as Pow
-use lib.Bits.{bitAnd, bitOr, and-shr, and-mod, and-le-r, or-add-and, or-zero-l}
+use lib.Bits.{bitAnd, bitOr, and-shr, and-mod, and-le-r, or-shr, or-mod, or-add-and, or-zero-l}
 use lib.Dec.{eqb}
 use borrow.Author.Tests.{ne-eqb}
 use Rattle.bits.specs.Choice.{both}
@@ -181,10 +181,28 @@ number-ext x y h =
     let e : x % 2 ^ n ≡ y % 2 ^ n = sym (lowest x n) ∙ field-ext x y 0 0 n (λ b l. rw zero-add (h b)) ∙ lowest y n in
     sym (mod-eq-of-lt (pow-above x n (omega arith))) ∙ e ∙ mod-eq-of-lt (pow-above y n (omega arith))
 
+-- a digit above the lowest is one of the half
+half : (x b : ℕ) → field x (suc b) 1 ≡ field (x / 2) b 1
+unfolding field
+half x b = let e : suc b ≡ 1 + b = omega arith in rw (e, ← shr-shr x 1 b)
+
+-- the complement has the other digits
+pub other : (w m b : ℕ) → b < w → m < 2 ^ w → field (2 ^ w - 1 - m) b 1 + field m b 1 ≡ 1
+other zero m b h l = absurd (not-suc-le-zero h)
+other (suc w) m zero h l = rw (lowest (2 ^ suc w - 1 - m) 1, lowest m 1) (omega arith)
+other (suc w) m (suc b) h l =
+    let e : (2 ^ suc w - 1 - m) / 2 ≡ 2 ^ w - 1 - m / 2 = omega arith in
+    rw (half (2 ^ suc w - 1 - m) b, half m b, e) (other w (m / 2) b (omega arith) (omega arith))
+
 -- a digit of `and`
 pub digit-and : (a b l : ℕ) → field (bitAnd a b) l 1 ≡ bitAnd (field a l 1) (field b l 1)
 unfolding field
 digit-and a b l = rw (and-shr a b l, and-mod (a / 2 ^ l) (b / 2 ^ l) 1)
+
+-- a digit of `or`
+pub digit-or : (a b l : ℕ) → field (bitOr a b) l 1 ≡ bitOr (field a l 1) (field b l 1)
+unfolding field
+digit-or a b l = rw (or-shr a b l, or-mod (a / 2 ^ l) (b / 2 ^ l) 1)
 
 -- `or` is zero exactly where both are
 pub or-none : (a c : ℕ) → eqb (bitOr a c) 0 ≡ both (eqb a 0) (eqb c 0)

@@ -25,7 +25,7 @@ fn put_pending(image: &mut [u8], trigger: Trigger, group: u8)
     ensures { λ _. ⌜ now (image .exit) ≡ pendingAfter false trigger group (now (image .entry)) ⌝ }
 {
     match trigger {
-        Trigger::DpInit => lanes::put_each(image, map::PENDING, 1, group, 1),
+        Trigger::DpInit => lanes::set_bits(image, map::PENDING, group),
         Trigger::Immediate => {}
     }
 }

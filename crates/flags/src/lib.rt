@@ -28,7 +28,7 @@ pub fn condition(image: &mut [u8], flag: u8, mask: u8)
     requires { ⌜ (length (now image) ≡ 768) × (128 ≤ flag) ⌝ }
     ensures { λ _. ⌜ now (image .exit) ≡ conditionSet flag mask (now (image .entry)) ⌝ }
 {
-    lanes::put_each(image, map::on(map::PAGE_11, flag), 1, mask, 1)
+    lanes::set_bits(image, map::on(map::PAGE_11, flag), mask)
 }
 
 // A lane's bit of a flag byte, set where the test holds.

@@ -2,35 +2,20 @@
 use mathlib.Core.Path.{_≡_, refl, sym, ap, _∙_}
 use mathlib.Core.Bool.{Bool, true, false, not}
 use mathlib.Core.Logic.{_⊎_, inl, inr}
-use Prim.Native.Nat.{ℕ, zero, suc, _+_, _-_, _/_, _^_, _<_}
-use native.Mathlib.Nat.{not-suc-le-zero}
+use Prim.Native.Nat.{ℕ, _+_, _-_, _^_, _<_}
 use native.Mathlib.Decide.{decLt}
 use native.Mathlib.Omega.{arith}
 use borrow.Author.Tests.{not-true, eqb-false, ne-eqb}
 use lib.Bits.{bitAnd, bitOr, and-le-l}
 use lib.Dec.{eqb}
-use lib.Pow.{shr-shr}
 use Rattle.bits.specs.Choice.{both, either}
 use Rattle.bits.specs.Loop.{anyBelow}
 use Rattle.bits.specs.Number.{field}
 use Rattle.bits.specs.Sets.{has}
 use Rattle.bits.proofs.Loops.{any-none, any-find, any-ext}
 use Rattle.bits.proofs.Masks.{set-ext, has-none}
-use Rattle.bits.proofs.Number.{digit-zero-or-one, digit-and, lowest, or-none}
+use Rattle.bits.proofs.Number.{digit-zero-or-one, digit-and, other, or-none}
 use Rattle.bits.proofs.Tests.{split, clash, bool-eq}
-
--- a digit above the lowest is one of the half
-half : (x b : ℕ) → field x (suc b) 1 ≡ field (x / 2) b 1
-unfolding field
-half x b = let e : suc b ≡ 1 + b = omega arith in rw (e, ← shr-shr x 1 b)
-
--- the complement has the other digits
-other : (w m b : ℕ) → b < w → m < 2 ^ w → field (2 ^ w - 1 - m) b 1 + field m b 1 ≡ 1
-other zero m b h l = absurd (not-suc-le-zero h)
-other (suc w) m zero h l = rw (lowest (2 ^ suc w - 1 - m) 1, lowest m 1) (omega arith)
-other (suc w) m (suc b) h l =
-    let e : (2 ^ suc w - 1 - m) / 2 ≡ 2 ^ w - 1 - m / 2 = omega arith in
-    rw (half (2 ^ suc w - 1 - m) b, half m b, e) (other w (m / 2) b (omega arith) (omega arith))
 
 -- what is left of the flags f, with n the complement of the masks m, has the digits that are 1 in f and 0 in m
 open-digit : (f n m b : ℕ) → field n b 1 + field m b 1 ≡ 1 → has (bitAnd f n) b ≡ both (eqb (field f b 1) 1) (eqb (field m b 1) 0)

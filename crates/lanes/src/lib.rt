@@ -93,3 +93,19 @@ pub fn put_each(image: &mut [u8], base: usize, width: u8, set: u8, v: u8)
         }
     }
 }
+
+// The bits of a set's lanes set to 1, all at once.
+pub fn set_bits(image: &mut [u8], at: usize, set: u8)
+    requires { ⌜ at + 1 ≤ length (now image) ⌝ }
+    ensures { λ _. ⌜ now (image .exit) ≡ each (has set) (λ l y. put y (laneField at 1 l) 1) 8 (now (image .entry)) ⌝ }
+{
+    image[at] = image[at] | set;
+}
+
+// The bits of a set's lanes set to 0, all at once.
+pub fn clear_bits(image: &mut [u8], at: usize, set: u8)
+    requires { ⌜ at + 1 ≤ length (now image) ⌝ }
+    ensures { λ _. ⌜ now (image .exit) ≡ each (has set) (λ l y. put y (laneField at 1 l) 0) 8 (now (image .entry)) ⌝ }
+{
+    image[at] = image[at] & !set;
+}

@@ -62,7 +62,7 @@ fn clear_pending(image: &mut [u8], path: u8, from: PathState, to: PathState)
     ensures { λ _. ⌜ now (image .exit) ≡ onlyIf (initialized from to) (withPending (has path) 0) (now (image .entry)) ⌝ }
 {
     if is_initialized(from, to) {
-        lanes::put_each(image, map::PENDING, 1, path, 0);
+        lanes::clear_bits(image, map::PENDING, path);
     }
 }
 
@@ -72,7 +72,7 @@ fn flag_change(image: &mut [u8], path: u8, to: PathState)
     ensures { λ _. ⌜ now (image .exit) ≡ onlyIf (resting to) (withFlags stateChanged path) (now (image .entry)) ⌝ }
 {
     if paths::is_resting(to) {
-        lanes::put_each(image, map::STATE_CHANGED, 1, path, 1);
+        lanes::set_bits(image, map::STATE_CHANGED, path);
     }
 }
 

@@ -9,8 +9,8 @@ use Rattle.moves.proofs.flag_change.Tie as tie
 is-resting-requires : tie.Need-is-resting-requires
 is-resting-requires c κs = search needs
 
-put-each-requires : tie.Need-put-each-requires
-put-each-requires c κs = search needs
+set-bits-requires : tie.Need-set-bits-requires
+set-bits-requires c κs = search needs
 
 same-length : tie.Need-same-length
 same-length c = search needs
@@ -18,7 +18,7 @@ same-length c = search needs
 returns : tie.Need-returns
 unfolding withFlags
 returns c =
-    c .before .before .put-each .ensures
+    c .before .before .set-bits .ensures
     ∙ sym (only-true _ _ (sym (c .before .before .before .before .before .is-resting .ensures) ∙ c .before .before .before .before .if1 .taken))
 
 returns-2 : tie.Need-returns-2
@@ -26,4 +26,4 @@ returns-2 c = sym (only-false _ _ (sym (c .before .is-resting .ensures) ∙ c .i
 
 pub flag-change-spec : {M : Type 1} → statement M
 flag-change-spec =
-    tie.close (tie.spec is-resting-requires put-each-requires same-length returns returns-2)
+    tie.close (tie.spec is-resting-requires set-bits-requires same-length returns returns-2)
