@@ -1,6 +1,6 @@
 -- The bytes of a write, one after another: what any part of them changes. Assumes nothing.
 use mathlib.Core.Path.{_≡_, refl, sym, ap, _∙_}
-use mathlib.Core.Bool.{Bool, true, false, not}
+use mathlib.Core.Bool.{true, false, not}
 use mathlib.Core.List.{List, [], _∷_}
 use mathlib.Core.Logic.{inl, inr}
 use Prim.Native.Nat.{ℕ, suc, _+_, _-_, _≤_, _<_}
@@ -14,13 +14,14 @@ use Rattle.model.specs.Map.{Image, bankSelect, pageSelect, applyDPInit, applyIm
 use Rattle.model.specs.Lanes.{stageAt, isInProgress}
 use Rattle.model.specs.View.{View}
 use Rattle.model.specs.Triggers.{State, markedStage, triggered}
-use Rattle.model.specs.Pages.{findPage, pagePlace, upperStart, selectedStart, placeOf, withPage, pageSelected}
+use Rattle.model.specs.Pages.{pagePlace, selectedStart, placeOf, withPage, pageSelected}
 use Rattle.model.specs.Access.{withImage, stored, byteWritten, bytesWritten, halfEnd}
 use Rattle.model.specs.declared.lane.Trigger.{Trigger}
 use Rattle.model.specs.declared.lane.Trigger.the-variants.{DpInit, Immediate}
 use Rattle.model.specs.declared.lane.Working.{Working}
 use Rattle.model.specs.declared.page.PagePlace.{PagePlace}
 use Rattle.model.specs.declared.page.PagePlace.the-variants.{Unsupported, At}
+use Rattle.model.proofs.Starts.{start-past}
 use Rattle.laws_step.specs.Changes.{ChangesOnly, orIn, inBytes, statusSet}
 use Rattle.laws_step.specs.Told.{marks, newlyMarked, amid, writtenBytes, writeSet}
 use Rattle.laws_step.proofs.Frames.{neither, unless, keeps-refl, keeps-set, keeps-then, keeps-more, keeps-left, keeps-right, keeps-byte, lanes-more, lanes-bytes}
@@ -127,22 +128,7 @@ lower-written from to (v ∷ vs) a s lo hi e =
     (rw (b, pick) (byte-stored from to a v s lo (omega arith)))
     (lower-written from to vs (suc a) (byteWritten a v s) (omega arith) (omega arith) (omega arith))
 
--- a page starts past lower memory
-start-pick : (b : Bool) (p q : PagePlace) → 128 ≤ upperStart p → 128 ≤ upperStart q → 128 ≤ upperStart (pick b p q)
-unfolding pick
-start-pick true p q h k = h
-start-pick false p q h k = k
-
-start-past : (x : Image) → 128 ≤ selectedStart x
-unfolding selectedStart pagePlace findPage
-start-past x =
-    start-pick _ _ _ (omega arith)
-    (start-pick _ _ _ (omega arith)
-    (start-pick _ _ _ (omega arith)
-    (start-pick _ _ _ (omega arith)
-    (start-pick _ _ _ (omega arith) (omega arith)))))
-
--- so a write past lower memory leaves all of it, and with it the selected page
+-- a write past lower memory leaves all of it, and with it the selected page
 lower-bytes : (from to i : ℕ) → i < 128 → 128 ≤ from → writtenBytes from to i ≡ true → ⊥
 unfolding writtenBytes amid
 lower-bytes from to i h f e = elim (either-cases _ _ e) [

@@ -21,7 +21,7 @@ use Rattle.model.specs.Outcome.{laidOver, listRoom}
 use Rattle.model.specs.Text.{line}
 use Rattle.model.specs.Lanes.{stageAt}
 use Rattle.model.specs.declared.answer.Answer.{Answer}
-use Rattle.model.specs.declared.answer.Answer.the-variants.{Done, WrongLength, FlatMemory, Unsound, BadAccess, ShortBuffer, NothingToDo, Busy, NoSuchPlace, Malformed, BackToFront}
+use Rattle.model.specs.declared.answer.Answer.the-variants.{Done, WrongLength, FlatMemory, Unsound, BadAccess, ShortBuffer, IdleLane, Busy, NoSuchPlace, Malformed, BackToFront}
 use Rattle.model.specs.declared.event.Call.{Call}
 use Rattle.model.specs.declared.event.Call.the-variants.{Write, Read, Work, Hardware, Condition, Sample}
 use Rattle.model.specs.declared.event.Event.{Event}
@@ -133,7 +133,7 @@ number-lt FlatMemory = omega arith
 number-lt Unsound = omega arith
 number-lt BadAccess = omega arith
 number-lt ShortBuffer = omega arith
-number-lt NothingToDo = omega arith
+number-lt IdleLane = omega arith
 number-lt Busy = omega arith
 number-lt NoSuchPlace = omega arith
 number-lt Malformed = omega arith

@@ -15,7 +15,7 @@ use Rattle.model.specs.Flags.{isConditionFlag, power}
 use Rattle.model.specs.Access.{isBadAccess, writeLimit, readLimit}
 use Rattle.model.specs.Sound.{isSound}
 use Rattle.model.specs.declared.answer.Answer.{Answer}
-use Rattle.model.specs.declared.answer.Answer.the-variants.{Done, WrongLength, FlatMemory, Unsound, BadAccess, ShortBuffer, NothingToDo, Busy, NoSuchPlace, BackToFront}
+use Rattle.model.specs.declared.answer.Answer.the-variants.{Done, WrongLength, FlatMemory, Unsound, BadAccess, ShortBuffer, IdleLane, Busy, NoSuchPlace, BackToFront}
 use Rattle.model.specs.declared.event.Call.{Call}
 use Rattle.model.specs.declared.event.Call.the-variants.{Write, Read, Work, Hardware, Condition, Sample}
 
@@ -76,9 +76,9 @@ unfoldable pub eventRefusals : ℕ → State → Call → List Refusal
 eventRefusals room s (Write address count) = refuse BadAccess (isBadAccess writeLimit address count) ∷ []
 eventRefusals room s (Read address count) =
     refuse BadAccess (isBadAccess readLimit address count) ∷ refuse ShortBuffer (ltb room count) ∷ []
-eventRefusals room s (Work l) = refuse NoSuchPlace (noSuchLane l) ∷ refuse NothingToDo (not (isInProgress (stageAt (s .working) l))) ∷ []
+eventRefusals room s (Work l) = refuse NoSuchPlace (noSuchLane l) ∷ refuse IdleLane (not (isInProgress (stageAt (s .working) l))) ∷ []
 eventRefusals room s (Hardware l) =
-    refuse NoSuchPlace (noSuchLane l) ∷ refuse Busy (isBusy s l) ∷ refuse NothingToDo (isUnused s l) ∷ []
+    refuse NoSuchPlace (noSuchLane l) ∷ refuse Busy (isBusy s l) ∷ refuse IdleLane (isUnused s l) ∷ []
 eventRefusals room s (Condition flag mask) = refuse NoSuchPlace (not (isConditionFlag flag)) ∷ []
 eventRefusals room s (Sample l p) = refuse NoSuchPlace (noSuchLane l) ∷ []
 

@@ -23,7 +23,7 @@ pub fn work(image: &mut [u8], w: Working, lane: u8) -> Left
         return replies::reply(Answer::NoSuchPlace, w);
     }
     if !stages::is_in_progress(stages::stage_at(w, lane)) {
-        return replies::reply(Answer::NothingToDo, w);
+        return replies::reply(Answer::IdleLane, w);
     }
     let worked = work::work(image, w, lane);
     let working = worked.working;
@@ -57,7 +57,7 @@ pub fn hardware(image: &mut [u8], w: Working, lane: u8) -> Left
         return replies::reply(Answer::Busy, w);
     }
     if !paths::used_at(image, map::ACTIVE_SET, lane) {
-        return replies::reply(Answer::NothingToDo, w);
+        return replies::reply(Answer::IdleLane, w);
     }
     moves::move_path(image, lane);
     interrupt::settle(image);

@@ -11,7 +11,7 @@ use lib.Bits.{bitOr}
 use borrow.Author.Tests.{eqb-true, le-leb, lt-leb, eq-eqb, ne-eqb}
 use Rattle.bits.specs.Choice.{both, implies}
 use Rattle.bits.specs.Loop.{allBelow}
-use Rattle.bits.proofs.Tests.{split, clash, both-i, both-r, pick-true, pick-false}
+use Rattle.bits.proofs.Tests.{and-both, split, clash, both-i, both-r, pick-true, pick-false}
 use Rattle.bits.proofs.Number.{or-none}
 use Rattle.bits.proofs.Loops.{all-at}
 use Rattle.model.specs.Answers.{number, isDone}
@@ -23,13 +23,8 @@ use Rattle.model.specs.declared.file.FileCheck.the-variants.{Refused, Good}
 
 -- ---- tests
 -- tests joined by `&`
-pub and-both : {a b c d : Bool} → a ≡ c → b ≡ d → (a && b) ≡ both c d
-unfolding both
-and-both {a} {b} {c} {d} p q = rw (p, q) (go c d)
-  where
-    go : (x y : Bool) → (x && y) ≡ both x y
-    go true y = refl
-    go false y = refl
+pub joined : {a b c d : Bool} → a ≡ c → b ≡ d → (a && b) ≡ both c d
+joined {a} {b} {c} {d} p q = rw (p, q) (and-both c d)
 
 pub both-right : (a b : Bool) → b ≡ false → both a b ≡ false
 unfolding both
@@ -84,7 +79,7 @@ module _ (file : List ℕ) (k : ℕ) where
 
   pub record-by : (used rest : ℕ) → used ≡ usedBytes file k → eqb rest 0 ≡ allBelow 12 (isClear file k) → (ltb 0 used && eqb rest 0) ≡ isRecord file k
   unfolding isRecord
-  record-by used rest e h = and-both (ap (ltb 0) e) h
+  record-by used rest e h = joined (ap (ltb 0) e) h
 
 -- ---- what the check finds
 module _ (file : List ℕ) where

@@ -18,7 +18,7 @@ use Rattle.model.specs.Map.{Image, clearing, applyDPInit, applyImmediate}
 use Rattle.model.specs.Pages.{placeOf}
 use Rattle.model.specs.Access.{halfEnd, shown, taken, cleared}
 use Rattle.model.specs.Outcome.{laidOver}
-use Rattle.pages.proofs.Starts.{start-fits}
+use Rattle.model.proofs.Starts.{start-fits}
 
 -- a read that ends in its own half of memory lies in the image
 pub access-fits : (x : Image) (address n : ℕ) → address + n ≤ halfEnd address → placeOf x address + n ≤ 768

@@ -17,7 +17,7 @@ use Rattle.model.specs.Flags.{isConditionFlag}
 use Rattle.model.specs.Access.{isBadAccess, writeLimit, readLimit}
 use Rattle.model.specs.Refusals.{firstOf, noSuchLane, isBusy, isUnused, eventRefusals}
 use Rattle.model.specs.Outcome.{state}
-use Rattle.model.specs.declared.answer.Answer.the-variants.{Done, BadAccess, ShortBuffer, NothingToDo, Busy, NoSuchPlace}
+use Rattle.model.specs.declared.answer.Answer.the-variants.{Done, BadAccess, ShortBuffer, IdleLane, Busy, NoSuchPlace}
 use Rattle.model.specs.declared.event.Call.the-variants.{Write, Read, Work, Hardware, Condition, Sample}
 use Rattle.model.specs.declared.lane.Stage.{Stage}
 use Rattle.model.specs.declared.lane.Working.{Working}
@@ -47,7 +47,7 @@ module _ (room : ℕ) (s : State) (l : ℕ) where
   work-nowhere h = first-here _ _ _ (no-lane l h)
 
   module _ (h : l < 8) where
-    pub work-idle : isInProgress (stageAt (s .working) l) ≡ false → firstOf (eventRefusals room s (Work l)) ≡ NothingToDo
+    pub work-idle : isInProgress (stageAt (s .working) l) ≡ false → firstOf (eventRefusals room s (Work l)) ≡ IdleLane
     unfolding eventRefusals
     work-idle e = first-next _ _ _ (lane-there l h) ∙ first-here _ _ _ (ap not e)
 
@@ -66,7 +66,7 @@ module _ (room : ℕ) (s : State) (l : ℕ) where
     hardware-busy e = first-next _ _ _ (lane-there l h) ∙ first-here _ _ _ e
 
     pub hardware-unused : isBusy s l ≡ false → isUsed (of (settingsOf activeSet (s .image)) l) ≡ false
-        → firstOf (eventRefusals room s (Hardware l)) ≡ NothingToDo
+        → firstOf (eventRefusals room s (Hardware l)) ≡ IdleLane
     unfolding eventRefusals isUnused
     hardware-unused e u = first-next _ _ _ (lane-there l h) ∙ first-next _ _ _ e ∙ first-here _ _ _ (ap not u)
 

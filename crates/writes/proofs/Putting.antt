@@ -18,7 +18,7 @@ use Rattle.model.specs.Pages.{selectedStart, placeOf}
 use Rattle.model.specs.Access.{stored, byteWritten, bytesWritten, halfEnd}
 use Rattle.model.specs.Outcome.{state}
 use Rattle.model.specs.declared.lane.Working.{Working}
-use Rattle.pages.proofs.Starts.{start-fits, start-past}
+use Rattle.model.proofs.Starts.{start-fits, start-past}
 use Rattle.writes.specs.Puts.{halfStart, meetsTriggers, bytePut, bytesPut}
 
 -- a place that is no trigger's

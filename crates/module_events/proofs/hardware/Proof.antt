@@ -4,7 +4,7 @@ use mathlib.Core.Path.{refl, sym, _∙_}
 use borrow.Author.Tests.{not-true, not-false}
 use Rattle.model.specs.Answers.{isDone}
 use Rattle.model.specs.Step.{carried}
-use Rattle.model.specs.declared.answer.Answer.the-variants.{NoSuchPlace, Busy, NothingToDo}
+use Rattle.model.specs.declared.answer.Answer.the-variants.{NoSuchPlace, Busy, IdleLane}
 use Rattle.replies.proofs.Outcomes.{refused-leaves, image-leaves}
 use Rattle.replies.proofs.Answered.{hardware-nowhere, hardware-busy, hardware-unused, hardware-done}
 use Rattle.module_events.proofs.hardware.Statement.{statement}
@@ -48,7 +48,7 @@ returns-3 c =
     let lane = c .before .before .before .before .before .before .before .if1 .left in
     let free = sym (c .before .before .before .before .before .is-busy .ensures) ∙ c .before .before .before .before .if2 .left in
     let unused = sym (c .before .before .used-at .ensures) ∙ not-true _ (c .before .if3 .taken) in
-    refused-leaves _ _ _ _ NothingToDo _ (hardware-unused _ _ _ lane free unused) refl (c .reply3 .ensures)
+    refused-leaves _ _ _ _ IdleLane _ (hardware-unused _ _ _ lane free unused) refl (c .reply3 .ensures)
 
 move-path-requires : tie.Need-move-path-requires
 move-path-requires c κs = search needs

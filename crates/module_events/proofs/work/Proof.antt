@@ -6,7 +6,7 @@ use Rattle.model.specs.Answers.{isDone}
 use Rattle.model.specs.Lanes.{isInProgress}
 use Rattle.model.specs.Step.{carried}
 use Rattle.model.specs.Outcome.{laidOver}
-use Rattle.model.specs.declared.answer.Answer.the-variants.{NoSuchPlace, NothingToDo}
+use Rattle.model.specs.declared.answer.Answer.the-variants.{NoSuchPlace, IdleLane}
 use Rattle.replies.proofs.Outcomes.{refused-leaves, done-leaves, work-reads-nothing}
 use Rattle.replies.proofs.Answered.{work-nowhere, work-idle, work-done}
 use Rattle.module_events.proofs.work.Statement.{statement}
@@ -31,7 +31,7 @@ reply-requires-2 c κs = search needs
 returns-2 : tie.Need-returns-2
 unfolding isDone
 returns-2 c =
-    refused-leaves _ _ _ _ NothingToDo _
+    refused-leaves _ _ _ _ IdleLane _
     (work-idle _ _ _ (c .before .before .before .before .if1 .left) (sym (c .before .before .is-in-progress .ensures ∙ ap isInProgress (c .before .before .before .stage-at .ensures)) ∙ not-true _ (c .before .if2 .taken)))
     refl (c .reply2 .ensures)
 

@@ -1,7 +1,7 @@
 -- `nightfile::is_framed` meets its contract. Assumes nothing.
 use mathlib.Core.Path.{refl, sym}
 use Rattle.model.specs.File.{recordCount, isWholeLength}
-use Rattle.nightfile.proofs.Checks.{and-both, short-frame}
+use Rattle.nightfile.proofs.Checks.{joined, short-frame}
 use borrow.Author.Needs.{needs}
 use Rattle.nightfile.proofs.is_framed.Statement.{statement}
 use Rattle.nightfile.proofs.is_framed.Tie as tie
@@ -26,7 +26,7 @@ is-header-requires c κs = search needs
 
 returns-2 : tie.Need-returns-2
 unfolding isWholeLength recordCount
-returns-2 c = rw (← (c .before .word4 .ensures)) (and-both (c .is-header .ensures) refl)
+returns-2 c = rw (← (c .before .word4 .ensures)) (joined (c .is-header .ensures) refl)
 
 pub is-framed-spec : {M : Type 1} → statement M
 is-framed-spec =

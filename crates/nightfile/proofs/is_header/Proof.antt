@@ -1,7 +1,7 @@
 -- `nightfile::is_header` meets its contract. Assumes nothing.
 use mathlib.Core.Path.{refl}
 use Rattle.model.specs.File.{recordCount, isHeader}
-use Rattle.nightfile.proofs.Checks.{and-both}
+use Rattle.nightfile.proofs.Checks.{joined}
 use borrow.Author.Needs.{needs}
 use Rattle.nightfile.proofs.is_header.Statement.{statement}
 use Rattle.nightfile.proofs.is_header.Tie as tie
@@ -31,7 +31,7 @@ returns : tie.Need-returns
 unfolding isHeader recordCount
 returns c =
     rw (← (c .before .before .word4 .ensures), ← (c .before .word42 .ensures), ← (c .word43 .ensures))
-    (and-both (and-both refl refl) (and-both (and-both refl refl) (and-both refl (and-both refl refl))))
+    (joined (joined refl refl) (joined (joined refl refl) (joined refl (joined refl refl))))
 
 pub is-header-spec : {M : Type 1} → statement M
 is-header-spec =

@@ -4,7 +4,7 @@ use denote.Ref.{now}
 use borrow.Author.Tests.{lt-ltb, le-ltb}
 use Rattle.bits.specs.Choice.{pick}
 use Rattle.model.specs.Pages.{placeOf}
-use Rattle.pages.proofs.Starts.{start-fits}
+use Rattle.model.proofs.Starts.{start-fits}
 use borrow.Author.Needs.{needs}
 use Rattle.reads.proofs.place_of.Statement.{statement}
 use Rattle.reads.proofs.place_of.Tie as tie

@@ -1,2 +1,0 @@
--- Where the selected page can start.
-pub mod Starts
