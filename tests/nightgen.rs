@@ -8,6 +8,8 @@
 
 #![forbid(unsafe_code)]
 
+use second::applications::find_descriptor;
+use second::lanes::*;
 use second::module::*;
 use second::night;
 use second::registers::*;
@@ -2081,7 +2083,7 @@ fn make_sound_state(rng: &mut Rng) -> State {
                 Stage::InProgress(Apply { group, trigger, held, verdict });
             put(&mut state.image, CONFIG_STATUS, lane, 12);
             if matches!(verdict, Verdict::Pass { next } if lane < next) {
-                let new = held.as_copied();
+                let new = as_copied(held);
                 state.image[ACTIVE_DP_CONFIG + lane as usize] =
                     new.app_sel << 4 | new.data_path_id << 1 | new.explicit_control as u8;
                 for &(place, on) in &[

@@ -1,5 +1,6 @@
 //! Cases from the scope paper, run with `second/check` (rustc --test).
 
+use crate::lanes::*;
 use crate::module::*;
 use crate::night;
 use crate::registers::*;

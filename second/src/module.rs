@@ -1,113 +1,10 @@
-//! The register core: its state, start, and the six events.
+//! The register core: start and the six events.
 
+use crate::applications::*;
+use crate::lanes::*;
 use crate::registers::*;
 use crate::soundness;
 use std::ops::Range;
-
-/// Which trigger register started an Apply.
-#[derive(Clone, Copy, PartialEq, Eq, Debug)]
-pub enum Trigger {
-    ApplyDPInit,
-    ApplyImmediate,
-}
-
-/// What the trigger decided about a group.
-#[derive(Clone, Copy, PartialEq, Eq, Debug)]
-pub enum Verdict {
-    /// Accepted; `next` is the lane to copy next, or `NO_NEXT_LANE`.
-    Pass { next: u8 },
-    /// Rejected with a ConfigStatus code of 2 to 7.
-    Reject { code: u8 },
-}
-
-/// A lane's staged settings as they were when its trigger was written.
-#[derive(Clone, Copy, PartialEq, Eq, Debug)]
-pub struct Settings {
-    pub app_sel: u8,
-    pub data_path_id: u8,
-    pub explicit_control: bool,
-    pub adaptive_eq: bool,
-    pub cdr_tx: bool,
-    pub cdr_rx: bool,
-    pub input_eq: u8,
-    pub pre_cursor: u8,
-    pub post_cursor: u8,
-    pub amplitude: u8,
-}
-
-impl Settings {
-    /// Every field as the copying leaves it after a release.
-    pub const RELEASED: Settings = Settings {
-        app_sel: 0,
-        data_path_id: 0,
-        explicit_control: false,
-        adaptive_eq: false,
-        cdr_tx: false,
-        cdr_rx: false,
-        input_eq: 0,
-        pre_cursor: 0,
-        post_cursor: 0,
-        amplitude: 0,
-    };
-
-    /// What copying these held settings puts into the active set: all zeros
-    /// for AppSel 0, the module's own choice (bits on, targets 0) without
-    /// ExplicitControl, else the settings themselves.
-    #[inline]
-    pub fn as_copied(self) -> Settings {
-        if self.app_sel == 0 {
-            Settings::RELEASED
-        } else if self.explicit_control {
-            self
-        } else {
-            Settings {
-                adaptive_eq: true,
-                cdr_tx: true,
-                cdr_rx: true,
-                input_eq: 0,
-                pre_cursor: 0,
-                post_cursor: 0,
-                amplitude: 0,
-                ..self
-            }
-        }
-    }
-}
-
-/// An Apply under way on a lane.
-#[derive(Clone, Copy, PartialEq, Eq, Debug)]
-pub struct Apply {
-    /// The group's lanes, bit l for lane l.
-    pub group: u8,
-    pub trigger: Trigger,
-    pub held: Settings,
-    pub verdict: Verdict,
-}
-
-/// The stage a lane's Apply has reached.
-#[derive(Clone, Copy, PartialEq, Eq, Debug)]
-pub enum Stage {
-    Idle,
-    InProgress(Apply),
-}
-
-/// What the module remembers of a lane beside the image.
-#[derive(Clone, Copy, PartialEq, Eq, Debug)]
-pub struct LaneRecord {
-    pub stage: Stage,
-}
-
-impl LaneRecord {
-    pub const IDLE: LaneRecord = LaneRecord { stage: Stage::Idle };
-
-    #[inline(always)]
-    pub fn in_progress(&self) -> bool {
-        match self.stage {
-            Stage::Idle => false,
-            Stage::InProgress(_) => true,
-        }
-    }
-}
 
 /// One event of a night.
 #[derive(Clone, Copy, PartialEq, Eq, Debug)]
@@ -138,28 +35,6 @@ impl Outcome {
     #[inline(always)]
     fn refused(answer: u8) -> Outcome {
         Outcome { answer, commission: 0, read: 0 }
-    }
-}
-
-/// An Application descriptor that is present.
-#[derive(Clone, Copy, PartialEq, Eq, Debug)]
-pub struct Descriptor {
-    /// Host lanes, 1 to 8.
-    pub lane_count: u8,
-    /// Bit f set if a path may begin on lane f.
-    pub first_lanes: u8,
-}
-
-impl Descriptor {
-    /// The lanes of a path that begins on lane `first`, if the descriptor
-    /// allows one there.
-    #[inline]
-    pub fn lanes_from(self, first: u8) -> Option<u8> {
-        if self.first_lanes >> first & 1 == 0 || first + self.lane_count > 8 {
-            None
-        } else {
-            Some(((0xFFu32 >> (8 - self.lane_count)) << first) as u8)
-        }
     }
 }
 
@@ -820,7 +695,7 @@ impl<'a> Module<'a> {
     #[inline(always)]
     fn copy(&mut self, lane: u8) {
         let new = match self.lanes[lane as usize & 7].stage {
-            Stage::InProgress(apply) => apply.held.as_copied(),
+            Stage::InProgress(apply) => as_copied(apply.held),
             Stage::Idle => return,
         };
         self.image[ACTIVE_DP_CONFIG + (lane & 7) as usize] =
@@ -938,45 +813,31 @@ impl<'a> Module<'a> {
     }
 }
 
+/// What copying held settings puts into the active set: all zeros for AppSel
+/// 0, the module's own choice (bits on, targets 0) without ExplicitControl,
+/// else the settings themselves.
+#[inline]
+pub fn as_copied(held: Settings) -> Settings {
+    if held.app_sel == 0 {
+        Settings::RELEASED
+    } else if held.explicit_control {
+        held
+    } else {
+        Settings {
+            adaptive_eq: true,
+            cdr_tx: true,
+            cdr_rx: true,
+            input_eq: 0,
+            pre_cursor: 0,
+            post_cursor: 0,
+            amplitude: 0,
+            ..held
+        }
+    }
+}
+
 /// An access is not empty and ends in the half it begins in.
 #[inline(always)]
 fn within_its_half(address: u8, count: u8) -> bool {
     count != 0 && (address & 127) as u32 + count as u32 <= 128
-}
-
-/// Descriptor of an AppSel of 1 to 15, if no descriptor up to it, in either
-/// area, ends the list and its own host lane count is one a path can have.
-#[inline]
-pub fn find_descriptor(image: &[u8; IMAGE_LEN], app_sel: u8) -> Option<Descriptor> {
-    if app_sel == 0 || app_sel > 15 {
-        return None;
-    }
-    if (1..=app_sel).any(|earlier| image[descriptor_place(earlier)] == DESCRIPTOR_END) {
-        return None;
-    }
-    let place = descriptor_place(app_sel);
-    let lane_count = image[place + 2] >> 4;
-    if lane_count == 0 || lane_count > 8 {
-        return None;
-    }
-    Some(Descriptor { lane_count, first_lanes: image[place + 3] })
-}
-
-/// The lanes of a set, lowest first.
-#[derive(Clone, Copy)]
-pub struct LaneSet(pub u8);
-
-impl Iterator for LaneSet {
-    type Item = u8;
-
-    #[inline(always)]
-    fn next(&mut self) -> Option<u8> {
-        if self.0 == 0 {
-            None
-        } else {
-            let lane = self.0.trailing_zeros() as u8;
-            self.0 &= self.0 - 1;
-            Some(lane)
-        }
-    }
 }

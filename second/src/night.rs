@@ -1,6 +1,7 @@
 //! The night file: its check, its records, and the replay from the file's
 //! bytes to the printed bytes.
 
+use crate::lanes::*;
 use crate::module::*;
 use crate::registers::*;
 use std::convert::TryFrom;

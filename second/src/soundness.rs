@@ -2,7 +2,8 @@
 //! for speed. It shares nothing with the fast core but the register places,
 //! the record types and the descriptor lookup.
 
-use crate::module::*;
+use crate::applications::*;
+use crate::lanes::*;
 use crate::registers::*;
 
 /// Whether a state meets (a) to (e).

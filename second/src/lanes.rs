@@ -1,0 +1,103 @@
+//! What the module remembers of its lanes beside the image, and sets of lanes:
+//! shared by the core and the soundness test.
+
+/// Which trigger register started an Apply.
+#[derive(Clone, Copy, PartialEq, Eq, Debug)]
+pub enum Trigger {
+    ApplyDPInit,
+    ApplyImmediate,
+}
+
+/// What the trigger decided about a group.
+#[derive(Clone, Copy, PartialEq, Eq, Debug)]
+pub enum Verdict {
+    /// Accepted; `next` is the lane to copy next, or `NO_NEXT_LANE`.
+    Pass { next: u8 },
+    /// Rejected with a ConfigStatus code of 2 to 7.
+    Reject { code: u8 },
+}
+
+/// A lane's staged settings as they were when its trigger was written.
+#[derive(Clone, Copy, PartialEq, Eq, Debug)]
+pub struct Settings {
+    pub app_sel: u8,
+    pub data_path_id: u8,
+    pub explicit_control: bool,
+    pub adaptive_eq: bool,
+    pub cdr_tx: bool,
+    pub cdr_rx: bool,
+    pub input_eq: u8,
+    pub pre_cursor: u8,
+    pub post_cursor: u8,
+    pub amplitude: u8,
+}
+
+impl Settings {
+    /// Every field as the copying leaves it after a release.
+    pub const RELEASED: Settings = Settings {
+        app_sel: 0,
+        data_path_id: 0,
+        explicit_control: false,
+        adaptive_eq: false,
+        cdr_tx: false,
+        cdr_rx: false,
+        input_eq: 0,
+        pre_cursor: 0,
+        post_cursor: 0,
+        amplitude: 0,
+    };
+}
+
+/// An Apply under way on a lane.
+#[derive(Clone, Copy, PartialEq, Eq, Debug)]
+pub struct Apply {
+    /// The group's lanes, bit l for lane l.
+    pub group: u8,
+    pub trigger: Trigger,
+    pub held: Settings,
+    pub verdict: Verdict,
+}
+
+/// The stage a lane's Apply has reached.
+#[derive(Clone, Copy, PartialEq, Eq, Debug)]
+pub enum Stage {
+    Idle,
+    InProgress(Apply),
+}
+
+/// What the module remembers of a lane beside the image.
+#[derive(Clone, Copy, PartialEq, Eq, Debug)]
+pub struct LaneRecord {
+    pub stage: Stage,
+}
+
+impl LaneRecord {
+    pub const IDLE: LaneRecord = LaneRecord { stage: Stage::Idle };
+
+    #[inline(always)]
+    pub fn in_progress(&self) -> bool {
+        match self.stage {
+            Stage::Idle => false,
+            Stage::InProgress(_) => true,
+        }
+    }
+}
+
+/// The lanes of a set, lowest first.
+#[derive(Clone, Copy)]
+pub struct LaneSet(pub u8);
+
+impl Iterator for LaneSet {
+    type Item = u8;
+
+    #[inline(always)]
+    fn next(&mut self) -> Option<u8> {
+        if self.0 == 0 {
+            None
+        } else {
+            let lane = self.0.trailing_zeros() as u8;
+            self.0 &= self.0 - 1;
+            Some(lane)
+        }
+    }
+}
