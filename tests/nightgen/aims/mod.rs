@@ -1,0 +1,88 @@
+//! Events that aim at the state a night has reached.
+
+mod accesses;
+mod applies;
+mod paths;
+mod signals;
+
+use crate::rng::Rng;
+use crate::state::State;
+use second::module::Event;
+use second::registers::IMAGE_LEN;
+use std::collections::VecDeque;
+
+/// Makes a night's events, looking at the state they lead to.
+pub struct Maker {
+    rng: Rng,
+    pub state: State,
+    /// Events decided on but not yet made: the rest of a host's errand.
+    errand: VecDeque<Event>,
+    /// Whether odd and wrong records are mixed in.
+    wild: bool,
+}
+
+impl Maker {
+    /// A maker of the events of a night that begins with this image.
+    pub fn new(mut rng: Rng, image: &[u8; IMAGE_LEN], wild: bool) -> Maker {
+        Maker::from(Rng(rng.next()), State::start(image), wild)
+    }
+
+    /// A maker that goes on from any state.
+    pub fn from(rng: Rng, state: State, wild: bool) -> Maker {
+        Maker { rng, state, errand: VecDeque::new(), wild }
+    }
+
+    pub fn next(&mut self) -> Event {
+        if !self.errand.is_empty() && self.rng.percent(70) {
+            return self.errand.pop_front().unwrap();
+        }
+        // A host that is always at it, with wrong records mixed in; or, for
+        // measuring, all six kinds of event about equally often.
+        let weights = if self.wild {
+            [26, 24, if self.errand.is_empty() { 14 } else { 2 }, 4, 4, 22, 8, 8, 3, 3, 3, 2, 3, 3]
+        } else {
+            [19, 19, if self.errand.is_empty() { 6 } else { 0 }, 1, 1, 18, 19, 19, 1, 1, 1, 1, 0, 0]
+        };
+        let mut left = self.rng.below(weights.iter().sum());
+        let mut choice = 0;
+        while left >= weights[choice] {
+            left -= weights[choice];
+            choice += 1;
+        }
+        match choice {
+            0 => self.work(),
+            1 => self.hardware(),
+            2 => self.provision(),
+            3 => self.release(),
+            4 => self.deinit(),
+            5 => self.look(),
+            6 => self.condition(),
+            7 => self.sample(),
+            8 => self.select(),
+            9 => self.masks(),
+            10 => self.stage_something(),
+            11 => self.trigger_again(),
+            12 => self.anything(),
+            _ => self.mute(),
+        }
+    }
+
+    fn begin(&mut self, errand: Vec<Event>) -> Event {
+        self.errand.extend(errand);
+        self.errand.pop_front().unwrap()
+    }
+
+    fn lane(&mut self) -> u8 {
+        if self.wild && self.rng.percent(2) {
+            8 + self.rng.byte() % 248
+        } else {
+            self.rng.byte() & 7
+        }
+    }
+}
+
+fn write_event(address: u8, bytes: &[u8]) -> Event {
+    let mut data = [0u8; 8];
+    data[..bytes.len()].copy_from_slice(bytes);
+    Event::Write { address, count: bytes.len() as u8, data }
+}

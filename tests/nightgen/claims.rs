@@ -1,0 +1,140 @@
+//! Checks of the papers' claims: soundness, and demand 3.
+
+use crate::aims::Maker;
+use crate::nights::Made;
+use crate::rng::Rng;
+use crate::sound_states::make_sound_state;
+use crate::state::*;
+use second::lanes::*;
+use second::module::*;
+use second::registers::*;
+use second::soundness;
+
+#[derive(Default)]
+pub struct Claims {
+    pub events: u64,
+    pub half_copied: u64,
+    pub made_states: u64,
+    pub made_events: u64,
+    pub made_late_events: u64,
+}
+
+impl Claims {
+    /// Replays a night with both runs; stops at the first violation.
+    pub fn night(&mut self, made: &Made) -> Result<(), String> {
+        let mut now = State::start(&made.image);
+        let mut late = now.clone();
+        let told = |at: usize, event: &Event, what: String| {
+            format!("after event {} ({:?}): {}", at, event, what)
+        };
+        if let Some(broken) = soundness::unsound_at(&now.image, &now.lanes) {
+            return Err(format!("start is not sound: {:?}", broken));
+        }
+        for (at, event) in made.events.iter().enumerate() {
+            let bits = left_out(&now);
+            let page = match now.page() {
+                0x01 => P01,
+                0x02 => P02,
+                0x10 => P10,
+                0x11 => P11,
+                _ => P00,
+            };
+            let (outcome, read) = now.step(event);
+            let (late_outcome, late_read) = late.step_late(event);
+            self.events += 1;
+            if now.image != late.image {
+                self.half_copied += 1;
+            }
+            if outcome != late_outcome {
+                return Err(told(at, event, format!("{:?}, late {:?}", outcome, late_outcome)));
+            }
+            if let Event::Read { address, .. } = *event {
+                let from = address as usize + if address < 128 { 0 } else { page };
+                for (index, (one, other)) in read.iter().zip(&late_read).enumerate() {
+                    if (one ^ other) & !bits[from + index] != 0 {
+                        return Err(told(at, event, "read bytes differ".to_string()));
+                    }
+                }
+            }
+            if let Some(broken) = soundness::unsound_at(&now.image, &now.lanes) {
+                return Err(told(at, event, format!("not sound, {:?}", broken)));
+            }
+            same_but_left_out(&now, &late).map_err(|what| told(at, event, what))?;
+        }
+        Ok(())
+    }
+
+    /// Makes a sound state that no start need lead to, and goes on from it.
+    pub fn made_state(&mut self, rng: &mut Rng) -> Result<(), String> {
+        let state = make_sound_state(rng);
+        if !soundness::sound(&state.image, &state.lanes) {
+            return Ok(());
+        }
+        self.made_states += 1;
+        // With no group half way, the late run can begin here as well.
+        let fresh = (0..8).filter_map(|lane| state.apply(lane)).all(|apply| passing(&apply).is_none());
+        let mut late = if fresh { Some(state.clone()) } else { None };
+        let mut maker = Maker::from(Rng(rng.next()), state, true);
+        for _ in 0..if fresh { 60 } else { 12 } {
+            let event = maker.next();
+            let before = maker.state.clone();
+            let mut buffer = [0u8; 128];
+            let outcome = desk(&mut maker.state.image, &mut maker.state.lanes, &event, &mut buffer);
+            self.made_events += 1;
+            let broken = soundness::unsound_at(&maker.state.image, &maker.state.lanes);
+            if outcome.answer == 3 || broken.is_some() {
+                return Err(format!(
+                    "from a made sound state, {:?} leads to {:?}; records before {:?}; image before {:02x?}",
+                    event, broken, before.lanes, &before.image[..]
+                ));
+            }
+            if outcome.answer != 0
+                && (before.image != maker.state.image || before.lanes != maker.state.lanes)
+            {
+                return Err(format!("refused {:?} changed something", event));
+            }
+            if let Some(late) = &mut late {
+                self.made_late_events += 1;
+                let (late_outcome, _) = late.step_late(&event);
+                if outcome != late_outcome {
+                    return Err(format!("{:?}: {:?}, late {:?}", event, outcome, late_outcome));
+                }
+                same_but_left_out(&maker.state, late)
+                    .map_err(|what| format!("from a made sound state, {:?}: {}", event, what))?;
+            }
+        }
+        Ok(())
+    }
+}
+
+/// The bits that demand 3 leaves out: active settings of lanes in progress.
+fn left_out(state: &State) -> [u8; IMAGE_LEN] {
+    let mut bits = [0u8; IMAGE_LEN];
+    for lane in LaneSet(state.in_progress()) {
+        let index = lane as usize;
+        bits[ACTIVE_DP_CONFIG + index] = 0xFF;
+        for place in [ACTIVE_ADAPTIVE_EQ, ACTIVE_CDR_TX, ACTIVE_CDR_RX] {
+            bits[place] |= 1 << lane;
+        }
+        for place in [ACTIVE_INPUT_EQ, ACTIVE_PRE_CURSOR, ACTIVE_POST_CURSOR, ACTIVE_AMPLITUDE] {
+            bits[place + index / 2] |= 0x0F << (4 * (lane % 2));
+        }
+    }
+    bits
+}
+
+fn same_but_left_out(one: &State, other: &State) -> Result<(), String> {
+    if one.lanes != other.lanes {
+        return Err("lane records differ".to_string());
+    }
+    let bits = left_out(one);
+    for place in 0..IMAGE_LEN {
+        if (one.image[place] ^ other.image[place]) & !bits[place] != 0 {
+            return Err(format!(
+                "image byte {} is {:02x} and {:02x} in the late run",
+                place, one.image[place], other.image[place]
+            ));
+        }
+    }
+    Ok(())
+}

@@ -1,0 +1,128 @@
+//! Writes and reads: pages, bytes that take a write, flags that a read clears.
+
+use super::Coverage;
+use crate::state::State;
+use second::lanes::Trigger;
+use second::module::*;
+use second::registers::*;
+
+impl Coverage {
+    /// A write is the same as its bytes written one by one.
+    pub(super) fn look_at_write(&mut self, before: &State, address: u8, data: &[u8], after: &State) {
+        let mut state = before.clone();
+        let mut triggers = 0;
+        let (mut bank_here, mut trigger_here) = (false, false);
+        for (place, &byte) in (address..=255).zip(data) {
+            let (bank, page) = (state.image[BANK_SELECT], state.image[PAGE_SELECT]);
+            let upper = state.page();
+            match place {
+                126 => {
+                    bank_here = true;
+                    if page >= 0x10 && bank == 0 && byte != 0 {
+                        self.hit("pages", "126 moves upper addresses from 10h or 11h to 00h");
+                    } else if page >= 0x10 && bank != 0 && byte == 0 {
+                        self.hit("pages", "126 back to 0 brings 10h or 11h back");
+                    }
+                }
+                127 => {
+                    if bank_here {
+                        self.hit("pages", "126 and 127 in one access");
+                    }
+                    if byte <= 2 && bank != 0 {
+                        self.hit("pages", "127 takes 00h, 01h or 02h beside a bank");
+                    }
+                    self.hit("pages", match (byte, bank) {
+                        (0x00, _) => "127 takes 00h",
+                        (0x01, _) => "127 takes 01h",
+                        (0x02, _) => "127 takes 02h",
+                        (0x10, 0) => "127 takes 10h",
+                        (0x11, 0) => "127 takes 11h",
+                        (0x10, _) | (0x11, _) => "127 refused: 10h or 11h beside a bank",
+                        _ => "127 refused: no such page",
+                    });
+                }
+                0..=125 => self.hit("pages", match place {
+                    31..=36 => "write on lower memory: byte takes it",
+                    _ => "write on lower memory: byte ignores it",
+                }),
+                _ => {
+                    self.hit("pages", match (upper, page) {
+                        (0x00, 0x10) | (0x00, 0x11) => "write on 00h in place of 10h or 11h",
+                        (0x00, _) => "write on 00h",
+                        (0x01, _) => "write on 01h",
+                        (0x02, _) => "write on 02h",
+                        (0x10, _) => "write on 10h",
+                        _ => "write on 11h",
+                    });
+                    if upper == 0x10 {
+                        match place {
+                            143 | 144 => {}
+                            128..=132 | 137..=139 | 145..=153 | 156..=173 | 213..=232 => {
+                                self.hit("pages", "write on 10h: byte takes it")
+                            }
+                            _ => self.hit("pages", "write on 10h: byte ignores it"),
+                        }
+                    }
+                }
+            }
+            let old = state.clone();
+            state.step(&Event::Write { address: place, count: 1, data: [byte, 0, 0, 0, 0, 0, 0, 0] });
+            if upper == 0x10 && place > 127 {
+                if place == 143 || place == 144 {
+                    triggers += 1;
+                    trigger_here = true;
+                    if triggers == 2 {
+                        self.hit("triggers", "both triggers in one access");
+                        if old.in_progress() & !before.in_progress() & byte != 0 {
+                            self.hit("triggers", "second trigger of an access finds lanes in progress");
+                        }
+                    }
+                    let trigger =
+                        if place == 143 { Trigger::ApplyDPInit } else { Trigger::ApplyImmediate };
+                    self.look_at_trigger(&old, trigger, byte, &state);
+                } else if trigger_here && (145..=152).contains(&place) && triggers != 0 {
+                    triggers = 0;
+                    self.hit("triggers", "staged bytes after the trigger in one access");
+                }
+            }
+        }
+        assert!(
+            state.image == after.image && state.lanes == after.lanes,
+            "a write differs from its bytes written one by one"
+        );
+    }
+
+    pub(super) fn look_at_read(&mut self, before: &State, address: u8, count: u8, after: &State) {
+        let page = before.page();
+        let shadowed = page == 0 && before.image[PAGE_SELECT] != 0;
+        let end = address as u32 + count as u32;
+        let over = |from: u32, to: u32| (address as u32) < to && from < end;
+        self.hit("pages", match (address, page) {
+            (0..=127, _) => "read on lower memory",
+            (_, 0x00) if shadowed => "read on 00h in place of 10h or 11h",
+            (_, 0x00) => "read on 00h",
+            (_, 0x01) => "read on 01h",
+            (_, 0x02) => "read on 02h",
+            (_, 0x10) => "read on 10h",
+            _ => "read on 11h",
+        });
+        if count == 128 {
+            self.hit("pages", "read of 128 bytes");
+        }
+        if page == 0x10 && over(143, 145) {
+            self.hit("pages", "read of the trigger bytes");
+        }
+        if over(8, 10) {
+            self.hit("flags", "lower 8-9 read");
+        }
+        if page == 0x11 && over(134, 154) {
+            let flags = LANE_FLAGS..LANE_FLAGS_END;
+            if before.image[flags.clone()] != after.image[flags.clone()] {
+                self.hit("flags", "flag cleared by a read");
+                if after.image[flags].iter().any(|&byte| byte != 0) {
+                    self.hit("flags", "flags partly read");
+                }
+            }
+        }
+    }
+}

@@ -1,0 +1,136 @@
+//! Counts of what nights cover. On the way the core is held against plain rules.
+
+mod accesses;
+mod applies;
+mod paths;
+mod signals;
+mod wanted;
+
+use self::wanted::WANTED;
+use crate::state::State;
+use second::module::*;
+use second::registers::*;
+use std::collections::BTreeMap;
+use std::io::{self, Write};
+
+#[derive(Default)]
+pub struct Coverage {
+    counts: BTreeMap<(&'static str, &'static str), u64>,
+    records: u64,
+}
+
+impl Coverage {
+    pub fn hit(&mut self, heading: &'static str, name: &'static str) {
+        let known =
+            WANTED.iter().any(|(head, names)| *head == heading && names.contains(&name));
+        assert!(known, "{}: {} is not on the list", heading, name);
+        *self.counts.entry((heading, name)).or_insert(0) += 1;
+    }
+
+    fn count(&self, heading: &'static str, name: &'static str) -> u64 {
+        self.counts.get(&(heading, name)).copied().unwrap_or(0)
+    }
+
+    /// Prints all counts; gives how many are 0.
+    pub fn print(&self, to: &mut dyn Write) -> io::Result<usize> {
+        let mut missing = 0;
+        let mut wanted = 0;
+        for (heading, names) in WANTED {
+            writeln!(to, "{}", heading)?;
+            for name in names.iter() {
+                let count = self.count(heading, name);
+                wanted += 1;
+                missing += (count == 0) as usize;
+                let note = if count == 0 { "   <- never" } else { "" };
+                writeln!(to, "  {:9}  {}{}", count, name, note)?;
+            }
+        }
+        writeln!(to, "{} of {} things occurred, in {} records", wanted - missing, wanted, self.records)?;
+        Ok(missing)
+    }
+
+    /// Looks at one event: the state before it, what it gave, the state after.
+    pub fn look(&mut self, before: &State, event: &Event, outcome: &Outcome, after: &State) {
+        self.records += 1;
+        let done = outcome.answer == 0;
+        match *event {
+            Event::Write { address, count, data } => {
+                if done {
+                    self.hit("answers", "0 write");
+                    self.look_at_write(before, address, &data[..count as usize], after);
+                } else {
+                    self.hit("answers", match (count, address) {
+                        (0, _) => "4 write of count 0",
+                        (9..=255, _) => "4 write of count above 8",
+                        (_, 0..=127) => "4 write past 127",
+                        _ => "4 write past 255",
+                    });
+                }
+            }
+            Event::Read { address, count } => {
+                if done {
+                    self.hit("answers", "0 read");
+                    self.look_at_read(before, address, count, after);
+                } else {
+                    self.hit("answers", match (count, address) {
+                        (0, _) => "4 read of count 0",
+                        (129..=255, _) => "4 read of count above 128",
+                        (_, 0..=127) => "4 read past 127",
+                        _ => "4 read past 255",
+                    });
+                }
+            }
+            Event::Work { lane } => {
+                self.hit("answers", match outcome.answer {
+                    0 => "0 work",
+                    6 => "6 work on an idle lane",
+                    _ => "8 work",
+                });
+                if done {
+                    self.look_at_work(before, lane, outcome);
+                }
+            }
+            Event::Hardware { lane } => {
+                let name = match outcome.answer {
+                    0 => "0 hardware",
+                    6 => "6 hardware on an unused lane",
+                    8 => "8 hardware",
+                    _ if before.apply(lane).is_none() => {
+                        "7 hardware on an idle lane whose path is in progress"
+                    }
+                    _ if before.used() >> lane & 1 != 0 => "7 hardware on a used lane in progress",
+                    _ => "7 hardware on an unused lane in progress",
+                };
+                self.hit("answers", name);
+                if done {
+                    self.look_at_path(before, lane, after);
+                }
+            }
+            Event::Condition { flag_byte, mask } => {
+                self.hit("answers", if done { "0 condition" } else { "8 condition" });
+                if done && mask != 0 {
+                    self.hit("flags", match flag_byte {
+                        135 => "flag byte 135 raised",
+                        136 => "flag byte 136 raised",
+                        137 => "flag byte 137 raised",
+                        138 => "flag byte 138 raised",
+                        147 => "flag byte 147 raised",
+                        _ => "flag byte 148 raised",
+                    });
+                    if before.image[P11 + flag_byte as usize] & mask != 0 {
+                        self.hit("flags", "condition on a flag that is up");
+                    }
+                }
+            }
+            Event::Sample { value, .. } => {
+                self.hit("answers", if done { "0 sample" } else { "8 sample" });
+                if done {
+                    self.look_at_sample(before, value);
+                }
+            }
+        }
+        if done {
+            self.look_at_interrupt(before, event, after);
+        }
+    }
+}

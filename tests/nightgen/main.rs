@@ -1,0 +1,207 @@
+//! Generator of night files for comparisons, with counts of what they cover.
+//!
+//! Every night is made event by event against the second program's core, so
+//! that the generator knows the state and can aim: at lanes in progress, at
+//! paths in a given state, at the edges of an access. A plain restatement of
+//! grouping and verdicts is held against the core on the way. The same seed
+//! always gives the same files.
+//!
+//! * `rng`, `state`: random numbers; the state a night has reached.
+//! * `rules`: grouping and verdicts, said plainly.
+//! * `image`, `aims`, `nights`: images, events that aim at the state, and the
+//!   nights and files made of them.
+//! * `coverage`: what must occur, and the counts of what did.
+//! * `damage`: damaged files.
+//! * `claims`, `sound_states`: soundness and demand 3, from start and from
+//!   states made otherwise.
+//! * `options`: the command line. The commands themselves are in this file.
+
+#![forbid(unsafe_code)]
+
+mod aims;
+mod claims;
+mod coverage;
+mod damage;
+mod image;
+mod nights;
+mod options;
+mod rng;
+mod rules;
+mod sound_states;
+mod state;
+
+use self::claims::Claims;
+use self::coverage::Coverage;
+use self::damage::Damage;
+use self::image::{limits, put_limits, turned_round};
+use self::nights::{make_night, night_file, night_length, REFUSED_EVERY};
+use self::options::Options;
+use self::rng::Rng;
+use second::night;
+use std::collections::BTreeMap;
+use std::fs;
+use std::io::{self, Write};
+use std::process::exit;
+
+const HELP: &str = "\
+nightgen: night files from fixed seeds
+
+  nightgen nights  [--seed S] [--count N] OUTPUT   nights with mixed events
+  nightgen damaged [--seed S] [--count N] OUTPUT   damaged files, and some whole ones
+  nightgen bench   [--seed S] [--records R] --dir D | --stream F
+                                                   one night of R mixed records
+  nightgen check   [--seed S] [--count N]          soundness and demand 3 on N nights
+
+OUTPUT is --dir D (files 00000.night and so on) or --stream F (each file after
+its length in 4 bytes, high byte first; - is standard output). What the files
+cover is printed (to standard error with --stream -); if something that ought
+to occur never did, the end is an error. --count 0 prints nothing and ends well.
+";
+
+fn main() {
+    let arguments: Vec<String> = std::env::args().skip(1).collect();
+    if let Err(message) = run(&arguments) {
+        eprintln!("nightgen: {}", message);
+        exit(1);
+    }
+}
+
+fn run(arguments: &[String]) -> Result<(), String> {
+    let command = arguments.first().map(String::as_str).unwrap_or("--help");
+    if matches!(command, "--help" | "-h" | "help") {
+        print!("{}", HELP);
+        return Ok(());
+    }
+    let options = Options::parse(&arguments[1..])?;
+    match command {
+        "nights" => nights(&options),
+        "damaged" => damaged(&options),
+        "bench" => bench(&options),
+        "check" => check(&options),
+        _ => Err(format!("{} is not a command; see nightgen --help", command)),
+    }
+}
+
+fn failed(error: io::Error) -> String {
+    format!("cannot write: {}", error)
+}
+
+fn nights(options: &Options) -> Result<(), String> {
+    let mut rng = Rng(options.seed);
+    let mut coverage = Coverage::default();
+    let mut output = options.output()?;
+    for index in 0..options.count {
+        let length = night_length(&mut rng, index);
+        // A refused night's events are never answered, so they cover nothing.
+        let refused = index % REFUSED_EVERY == REFUSED_EVERY - 1;
+        let mut unanswered = Coverage::default();
+        let covers = if refused { &mut unanswered } else { &mut coverage };
+        let mut made = make_night(&mut rng, length, true, covers);
+        if refused {
+            let rising = limits(&made.image);
+            put_limits(&mut made.image, turned_round(rising, index / REFUSED_EVERY % 4));
+        }
+        let file = night_file(&made.image, &made.events);
+        coverage.look_at_start(&made.image, night::check(&file).err().unwrap_or(0));
+        output.put(index, &file).map_err(failed)?;
+    }
+    output.finish().map_err(failed)?;
+    if options.count > 0 {
+        let missing = coverage.print(&mut options.report()).map_err(failed)?;
+        if missing > 0 {
+            return Err(format!("{} things never occurred", missing));
+        }
+    }
+    Ok(())
+}
+
+fn damaged(options: &Options) -> Result<(), String> {
+    let mut output = options.output()?;
+    let mut damage = Damage::new(&mut Rng(options.seed));
+    let listed = damage.listed.len();
+    let mut kinds: BTreeMap<&'static str, [u64; 4]> = BTreeMap::new();
+    for index in 0..options.count {
+        let (kind, file) = damage.next();
+        let column = match night::check(&file) {
+            Err(9) => 0,
+            Err(2) => 1,
+            Err(_) => 2,
+            Ok(_) => 3,
+        };
+        // What the files listed with an image of a kind must give.
+        let wanted = match kind {
+            "flat and malformed" | "back to front and malformed"
+            | "back to front, flat and malformed" => 0,
+            "flat image" | "back to front and flat" => 1,
+            "back to front" => 2,
+            "whole" | "longest, whole" | "limits equal, whole" => 3,
+            _ => column,
+        };
+        if column != wanted {
+            return Err(format!("file {} ({}) is not answered as it must be", index, kind));
+        }
+        kinds.entry(kind).or_insert([0; 4])[column] += 1;
+        output.put(index, &file).map_err(failed)?;
+    }
+    output.finish().map_err(failed)?;
+    let mut report = options.report();
+    writeln!(report, "    bad 9    bad 2   bad 10   replays").map_err(failed)?;
+    for (kind, [malformed, flat, turned, whole]) in &kinds {
+        writeln!(report, "{:9}{:9}{:9}{:10}  {}", malformed, flat, turned, whole, kind)
+            .map_err(failed)?;
+    }
+    if options.count > 0 && options.count < listed {
+        return Err(format!(
+            "{} files do not hold all {} listed kinds of damage",
+            options.count, listed
+        ));
+    }
+    Ok(())
+}
+
+fn bench(options: &Options) -> Result<(), String> {
+    let mut uncounted = Coverage::default();
+    let made = make_night(&mut Rng(options.seed), options.records, false, &mut uncounted);
+    let mut output = options.output()?;
+    output.put(0, &night_file(&made.image, &made.events)).map_err(failed)?;
+    output.finish().map_err(failed)
+}
+
+fn check(options: &Options) -> Result<(), String> {
+    let mut rng = Rng(options.seed);
+    let mut uncounted = Coverage::default();
+    let mut claims = Claims::default();
+    for index in 0..options.count {
+        let length = night_length(&mut rng, index);
+        let made = make_night(&mut rng, length, true, &mut uncounted);
+        if let Err(what) = claims.night(&made) {
+            let name = "counterexample.night";
+            let file = night_file(&made.image, &made.events);
+            fs::write(name, file).map_err(failed)?;
+            return Err(format!(
+                "seed {}, night {}: {} (written to {})",
+                options.seed, index, what, name
+            ));
+        }
+        for _ in 0..200 {
+            claims.made_state(&mut rng)?;
+        }
+    }
+    println!(
+        "{} nights, {} events: every state reached from start is sound",
+        options.count, claims.events
+    );
+    println!(
+        "the late run agrees after each of them but for active settings of lanes in progress ({} times these differed)",
+        claims.half_copied
+    );
+    println!(
+        "{} sound states made otherwise, {} events from them: every one leads to a sound state",
+        claims.made_states, claims.made_events
+    );
+    println!(
+        "{} of these events from states with no passing group: the late run agrees as well",
+        claims.made_late_events
+    );
+    Ok(())
+}

@@ -1,0 +1,86 @@
+//! Whole nights, and the files they make.
+
+use crate::aims::Maker;
+use crate::coverage::Coverage;
+use crate::image::make_image;
+use crate::rng::Rng;
+use second::module::Event;
+use second::registers::IMAGE_LEN;
+
+/// A finished night: its image and its events.
+pub struct Made {
+    pub image: [u8; IMAGE_LEN],
+    pub events: Vec<Event>,
+}
+
+/// One night in so many has its limits back to front.
+pub const REFUSED_EVERY: usize = 40;
+
+pub fn make_night(rng: &mut Rng, length: usize, wild: bool, coverage: &mut Coverage) -> Made {
+    let image = make_image(rng, wild);
+    let mut maker = Maker::new(rng.clone(), &image, wild);
+    rng.next();
+    let mut events = Vec::with_capacity(length);
+    while events.len() < length {
+        let event = maker.next();
+        let before = maker.state.clone();
+        let (outcome, _) = maker.state.step(&event);
+        coverage.look(&before, &event, &outcome, &maker.state);
+        events.push(event);
+    }
+    match length {
+        0 => coverage.hit("nights", "no record"),
+        1 => coverage.hit("nights", "one record"),
+        5000 => coverage.hit("nights", "5000 records"),
+        _ => {}
+    }
+    if length > 1000 {
+        coverage.hit("nights", "index of four digits");
+    }
+    Made { image, events }
+}
+
+/// Lengths of the nights: mostly a few hundred records, the edges now and then.
+pub fn night_length(rng: &mut Rng, index: usize) -> usize {
+    match index % 250 {
+        0 => 0,
+        1 => 1,
+        2 => 5000,
+        3 => 1001,
+        n if n % 25 == 4 => 500 + rng.below(1500),
+        n if n % 5 == 0 => 2 + rng.below(40),
+        _ => 100 + rng.below(400),
+    }
+}
+
+pub fn night_file(image: &[u8; IMAGE_LEN], events: &[Event]) -> Vec<u8> {
+    let mut file = b"WL\x01\x00".to_vec();
+    for number in [events.len() as u32, 16, 784] {
+        file.extend_from_slice(&number.to_be_bytes());
+    }
+    file.extend_from_slice(image);
+    for event in events {
+        file.extend_from_slice(&record_of(event));
+    }
+    file
+}
+
+fn record_of(event: &Event) -> [u8; 12] {
+    let mut record = [0u8; 12];
+    match *event {
+        Event::Write { address, count, data } => {
+            record[..3].copy_from_slice(&[1, address, count]);
+            let used = count.min(8) as usize;
+            record[3..3 + used].copy_from_slice(&data[..used]);
+        }
+        Event::Read { address, count } => record[..3].copy_from_slice(&[2, address, count]),
+        Event::Work { lane } => record[..2].copy_from_slice(&[3, lane]),
+        Event::Hardware { lane } => record[..2].copy_from_slice(&[4, lane]),
+        Event::Condition { flag_byte, mask } => record[..3].copy_from_slice(&[5, flag_byte, mask]),
+        Event::Sample { lane, value } => {
+            let [high, low] = value.to_be_bytes();
+            record[..4].copy_from_slice(&[6, lane, high, low]);
+        }
+    }
+    record
+}

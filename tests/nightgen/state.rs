@@ -1,0 +1,93 @@
+//! The state a night has reached, and what a host or a test can ask of it.
+
+use second::lanes::*;
+use second::module::*;
+use second::registers::*;
+
+#[derive(Clone)]
+pub struct State {
+    pub image: [u8; IMAGE_LEN],
+    pub lanes: [LaneRecord; LANES],
+}
+
+impl State {
+    pub fn start(image: &[u8; IMAGE_LEN]) -> State {
+        let mut state = State { image: *image, lanes: [LaneRecord::IDLE; LANES] };
+        assert_eq!(start(&mut state.image, &mut state.lanes), 0, "start refused an image");
+        state
+    }
+
+    fn module(&mut self) -> Module<'_> {
+        Module { image: &mut self.image, lanes: &mut self.lanes }
+    }
+
+    pub fn step(&mut self, event: &Event) -> (Outcome, Vec<u8>) {
+        let mut buffer = [0u8; 128];
+        let outcome = self.module().step(event, &mut buffer);
+        (outcome, buffer[..outcome.read as usize].to_vec())
+    }
+
+    pub fn step_late(&mut self, event: &Event) -> (Outcome, Vec<u8>) {
+        let mut buffer = [0u8; 128];
+        let outcome = self.module().step_late(event, &mut buffer);
+        (outcome, buffer[..outcome.read as usize].to_vec())
+    }
+
+    pub fn apply(&self, lane: u8) -> Option<Apply> {
+        match self.lanes[lane as usize].stage {
+            Stage::Idle => None,
+            Stage::InProgress(apply) => Some(apply),
+        }
+    }
+
+    pub fn lanes_where(&self, holds: impl Fn(u8) -> bool) -> u8 {
+        (0..8).filter(|&lane| holds(lane)).map(|lane| 1 << lane).sum()
+    }
+
+    pub fn in_progress(&self) -> u8 {
+        self.lanes_where(|lane| self.apply(lane).is_some())
+    }
+
+    pub fn nibble(&self, place: usize, lane: u8) -> u8 {
+        self.image[place + lane as usize / 2] >> (4 * (lane % 2)) & 15
+    }
+
+    pub fn dp_state(&self, lane: u8) -> u8 {
+        self.nibble(DP_STATE, lane)
+    }
+
+    pub fn staged(&self, lane: u8) -> u8 {
+        self.image[STAGED_DP_CONFIG + lane as usize]
+    }
+
+    pub fn active(&self, lane: u8) -> u8 {
+        self.image[ACTIVE_DP_CONFIG + lane as usize]
+    }
+
+    pub fn used(&self) -> u8 {
+        self.lanes_where(|lane| self.active(lane) >> 4 != 0)
+    }
+
+    /// The lanes of the active path that a used lane is on.
+    pub fn path(&self, lane: u8) -> u8 {
+        let id = self.active(lane) >> 1 & 7;
+        self.used() & self.lanes_where(|other| self.active(other) >> 1 & 7 == id)
+    }
+
+    /// The page that upper addresses go to.
+    pub fn page(&self) -> u8 {
+        match self.image[PAGE_SELECT] {
+            page @ (0x01 | 0x02) => page,
+            page @ (0x10 | 0x11) if self.image[BANK_SELECT] == 0 => page,
+            _ => 0,
+        }
+    }
+}
+
+/// The lane that a passing group copies next; none for a rejected one.
+pub fn passing(apply: &Apply) -> Option<u8> {
+    match apply.verdict {
+        Verdict::Pass { next } => Some(next),
+        Verdict::Reject { .. } => None,
+    }
+}
