@@ -1,0 +1,26 @@
+"""The editions of the night file, one row each: what differs from edition to edition stands here and nowhere else.
+
+Whatever the edition, a night runs on the module as it is: pages and registers are the module's and not the edition's.
+"""
+
+from typing import NamedTuple
+
+from .records import CONDITION, HARDWARE, READ, SAMPLE, WORK, WRITE
+
+IMAGE_AT = 16
+
+
+class Edition(NamedTuple):
+    number: int
+    image_length: int
+    records_at: int
+    kinds: dict
+
+
+def edition(number, image_length, kinds):
+    return Edition(number, image_length, IMAGE_AT + image_length, kinds)
+
+
+EDITIONS = {
+    1: edition(1, 768, {1: WRITE, 2: READ, 3: WORK, 4: HARDWARE, 5: CONDITION, 6: SAMPLE}),
+}

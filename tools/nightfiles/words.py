@@ -1,0 +1,311 @@
+"""What answers and registers mean, in words. Names are those of OIF-CMIS-05.3; lanes count from 0."""
+
+from typing import Callable, NamedTuple
+
+from .pages import BANK_SELECT, LOWER, PAGES
+
+# ---- answers ----
+
+DONE = 0
+MALFORMED = 9
+REFUSALS = {
+    1: "image is not of the module's length",
+    2: "flat memory (bit 7 of lower byte 2 is 1)",
+    3: "state is not sound",
+    4: "access of no bytes or of too many, or past 127 or 255",
+    5: "buffer shorter than what goes into it",
+    6: "work step on an idle lane or hardware event on an unused lane",
+    7: "lane is in progress or its path has such a lane",
+    8: "lane above 7 or flag byte not listed",
+    MALFORMED: "night file is malformed",
+    10: "limits of received power are back to front",
+}
+# The same where the record says more.
+REFUSALS_OF = {
+    ("write", 4): "count 0 or above 8, or past 127 or 255",
+    ("read", 4): "count 0 or above 128, or past 127 or 255",
+    ("work", 6): "lane is idle",
+    ("hardware", 6): "lane is unused",
+    ("work", 8): "lane above 7",
+    ("hardware", 8): "lane above 7",
+    ("condition", 8): "flag byte not listed",
+    ("sample", 8): "lane above 7",
+}
+
+
+def refusal_words(number, kind=None):
+    """Why something was refused; with the kind of a record, why that was."""
+    return REFUSALS_OF.get((kind, number)) or REFUSALS.get(number, "not a number of the list")
+
+
+def answer_words(number, kind):
+    return "done" if number == DONE else "refused: " + refusal_words(number, kind)
+
+
+# ---- lanes and codes ----
+
+
+def runs(numbers):
+    """Numbers in rising order, those that follow each other as one run."""
+    found = []
+    for number in numbers:
+        if found and found[-1][1] == number - 1:
+            found[-1][1] = number
+        else:
+            found.append([number, number])
+    return ", ".join("%d" % first if first == last else "%d-%d" % (first, last) for first, last in found)
+
+
+def several(noun, numbers):
+    return "%s%s %s" % (noun, "s" if len(numbers) > 1 else "", runs(numbers))
+
+
+def lanes(mask):
+    """The lanes whose bit is 1."""
+    chosen = [lane for lane in range(8) if mask >> lane & 1]
+    return several("lane", chosen) if chosen else "no lane"
+
+
+def alike(values):
+    """Each value with the numbers that have it, in the order of their first ones."""
+    having = {}
+    for number, value in values:
+        having.setdefault(value, []).append(number)
+    return having.items()
+
+
+def by_lane(values):
+    return ["%s on %s" % (value, several("lane", chosen)) for value, chosen in alike(values)]
+
+
+def power(value):
+    return "%d (%d.%d uW)" % (value, value // 10, value % 10)
+
+
+MODULE_STATES = {1: "ModuleLowPwr", 2: "ModulePwrUp", 3: "ModuleReady", 4: "ModulePwrDn", 5: "ModuleFault"}
+DP_STATES = {
+    1: "DPDeactivated",
+    2: "DPInit",
+    3: "DPDeinit",
+    4: "DPActivated",
+    5: "DPTxTurnOn",
+    6: "DPTxTurnOff",
+    7: "DPInitialized",
+}
+CONFIG_STATUS = {
+    0: "undefined",
+    1: "success",
+    2: "rejected",
+    3: "rejected (invalid Application)",
+    4: "rejected (invalid data path)",
+    5: "rejected (invalid signal integrity settings)",
+    6: "rejected (lanes in use)",
+    7: "rejected (part of a data path)",
+    12: "in progress",
+    13: "custom Dh",
+    14: "custom Eh",
+    15: "custom Fh",
+}
+# 11h:134-153, and their masks at 10h:213-232. The standard has "Flag" or "Mask" in these names.
+FLAGS = (
+    "DP State Changed",
+    "Failure Tx",
+    "LOS Tx",
+    "CDR LOL Tx",
+    "Adaptive Input Eq Fail Tx",
+    "Optical Power High Alarm Tx",
+    "Optical Power Low Alarm Tx",
+    "Optical Power High Warning Tx",
+    "Optical Power Low Warning Tx",
+    "Laser Bias High Alarm Tx",
+    "Laser Bias Low Alarm Tx",
+    "Laser Bias High Warning Tx",
+    "Laser Bias Low Warning Tx",
+    "LOS Rx",
+    "CDR LOL Rx",
+    "Optical Power High Alarm Rx",
+    "Optical Power Low Alarm Rx",
+    "Optical Power High Warning Rx",
+    "Optical Power Low Warning Rx",
+    "Output Status Changed Rx",
+)
+LIMITS = ("high alarm", "low alarm", "high warning", "low warning")
+
+
+# ---- what a register's bytes say ----
+#
+# Each of these takes the bytes of a register that were read, by their offset in it, and gives a list of things said.
+# A read may begin or end in the middle.
+
+
+def lane_bits(data):
+    return [lanes(data[0])]
+
+
+def lane_nibbles(names=None):
+    """A nibble a lane, the even lane's the low one: codes with names, or numbers."""
+
+    def words(data):
+        values = [(2 * at + half, byte >> 4 * half & 15) for at, byte in data.items() for half in (0, 1)]
+        if names is None:
+            return by_lane(values)
+        return by_lane((lane, names.get(code, "reserved code %d" % code)) for lane, code in values)
+
+    return words
+
+
+def module_state(data):
+    state = data[0] >> 1 & 7
+    interrupt = "no interrupt" if data[0] & 1 else "interrupt asserted"
+    return [MODULE_STATES.get(state, "reserved code %d" % state), interrupt]
+
+
+def memory_model(data):
+    model = "flat memory" if data[0] & 0x80 else "paged memory"
+    immediate = "ApplyImmediate does nothing" if data[0] & 0x40 else "ApplyImmediate acts"
+    return [model, immediate]
+
+
+def selection(data):
+    said = []
+    if 0 in data:
+        said.append("bank %d" % data[0])
+    if 1 in data:
+        page = data[1]
+        hidden = PAGES.get(page) and data.get(0)
+        said.append("page %02Xh" % page + (" (page 00h answers, since the bank is not 0)" if hidden else ""))
+    return said
+
+
+def raised(data):
+    """Flag bytes, or their masks."""
+    return ["%s on %s" % (FLAGS[at], lanes(byte)) for at, byte in data.items() if byte] or ["none"]
+
+
+def dp_configs(data):
+    def words(byte):
+        app_sel, path, explicit = byte >> 4, byte >> 1 & 7, byte & 1
+        return "AppSel %d%s DataPathID %d ExplicitControl %d" % (app_sel, "" if app_sel else " (none)", path, explicit)
+
+    return by_lane((lane, words(byte)) for lane, byte in data.items())
+
+
+def whole(data, size):
+    """The fields of `size` bytes that were read whole, and the numbers of those that were read in part."""
+    numbers = sorted({at // size for at in data})
+    places = {n: range(size * n, size * (n + 1)) for n in numbers}
+    read = {n: bytes(data[at] for at in places[n]) for n in numbers if all(at in data for at in places[n])}
+    return read, [n for n in numbers if n not in read]
+
+
+def received_powers(data):
+    read, cut = whole(data, 2)
+    said = by_lane((lane, power(int.from_bytes(pair, "big"))) for lane, pair in read.items())
+    return said + ["half of a value on lane %d" % lane for lane in cut]
+
+
+def power_limits(data):
+    read, cut = whole(data, 2)
+    said = ["%s %s" % (LIMITS[n], power(int.from_bytes(pair, "big"))) for n, pair in read.items()]
+    return said + ["half of the %s" % LIMITS[n] for n in cut]
+
+
+def descriptors(first):
+    """Application descriptors of four bytes, the first one's number given."""
+
+    def application(descriptor):
+        host, media, counts, options = descriptor
+        if host == 0xFF:
+            return "end of the list"
+        if not 1 <= counts >> 4 <= 8:
+            return "none (host lane count %d)" % (counts >> 4)
+        size = "%d host lane%s beginning on %s" % (counts >> 4, "s" if counts >> 4 > 1 else "", lanes(options))
+        return "%s (host interface %02Xh, media interface %02Xh)" % (size, host, media)
+
+    def words(data):
+        read, cut = whole(data, 4)
+        found = alike((first + n, application(descriptor)) for n, descriptor in read.items())
+        said = ["%s: %s" % (several("AppSel", chosen), value) for value, chosen in found]
+        return said + ["AppSel %d: read in part" % (first + n) for n in cut]
+
+    return words
+
+
+def input_limits(data):
+    codes = [code for code in range(4) if data[0] >> 4 + code & 1]
+    return ["input EQ up to %d" % (data[0] & 15), several("amplitude code", codes) if codes else "no amplitude code"]
+
+
+def cursor_limits(data):
+    return ["pre-cursor up to %d" % (data[0] & 15), "post-cursor up to %d" % (data[0] >> 4)]
+
+
+# ---- the registers ----
+
+
+class Register(NamedTuple):
+    first: int
+    last: int
+    name: str
+    words: Callable
+
+
+def control_set(base, name):
+    """The settings of a control set, staged or active, from its first DPConfig byte on."""
+    rows = (
+        (0, 7, "DPConfig", dp_configs),
+        (8, 8, "AdaptiveInputEqEnableTx", lane_bits),
+        (11, 14, "HostControlledInputEqTargetTx", lane_nibbles()),
+        (15, 15, "CDREnableTx", lane_bits),
+        (16, 16, "CDREnableRx", lane_bits),
+        (17, 20, "OutputEqPreCursorTargetRx", lane_nibbles()),
+        (21, 24, "OutputEqPostCursorTargetRx", lane_nibbles()),
+        (25, 28, "OutputAmplitudeTargetRx", lane_nibbles()),
+    )
+    return tuple(Register(base + first, base + last, name + " " + field, words) for first, last, field, words in rows)
+
+
+REGISTERS = {
+    LOWER: (
+        Register(2, 2, "MemoryModel and SteppedConfigOnly", memory_model),
+        Register(3, 3, "ModuleState", module_state),
+        Register(86, 117, "Application descriptors", descriptors(1)),
+        Register(BANK_SELECT, BANK_SELECT + 1, "BankSelect and PageSelect", selection),
+    ),
+    0x01: (
+        Register(153, 153, "limits of settings", input_limits),
+        Register(154, 154, "limits of settings", cursor_limits),
+        Register(223, 250, "Application descriptors", descriptors(9)),
+    ),
+    0x02: (Register(192, 199, "limits of received power in 0.1 uW", power_limits),),
+    0x10: (
+        Register(128, 128, "DPDeinit", lane_bits),
+        Register(129, 129, "InputPolarityFlipTx", lane_bits),
+        Register(130, 130, "OutputDisableTx", lane_bits),
+        Register(131, 131, "AutoSquelchDisableTx", lane_bits),
+        Register(132, 132, "OutputSquelchForceTx", lane_bits),
+        Register(137, 137, "OutputPolarityFlipRx", lane_bits),
+        Register(138, 138, "OutputDisableRx", lane_bits),
+        Register(139, 139, "AutoSquelchDisableRx", lane_bits),
+        *control_set(145, "staged"),
+        Register(213, 232, "masks", raised),
+    ),
+    0x11: (
+        Register(128, 131, "DPState", lane_nibbles(DP_STATES)),
+        Register(134, 153, "flags", raised),
+        Register(186, 201, "received power in 0.1 uW", received_powers),
+        Register(202, 205, "ConfigStatus", lane_nibbles(CONFIG_STATUS)),
+        *control_set(206, "active"),
+        Register(235, 235, "DPInitPending", lane_bits),
+    ),
+}
+
+
+def register_words(page, address, data):
+    """What the bytes of a read say: for each register it touches, addresses and name, and the things said."""
+    for register in REGISTERS.get(page, ()):
+        first, last = max(register.first, address), min(register.last, address + len(data) - 1)
+        if first <= last:
+            read = {at - register.first: data[at - address] for at in range(first, last + 1)}
+            place = "%d" % first if first == last else "%d-%d" % (first, last)
+            yield "%s %s" % (place, register.name), register.words(read)
