@@ -129,7 +129,7 @@ module _ (room : ℕ) (s : State) (bytes : List ℕ) (l : ℕ) (p : Progress) (h
     unfolding closed
     rejected-changes = rw reject-is (keeps-then (keeps-right _ (status-changes (has (p .group)) code (s .image))) (keeps-left _ (settled-changes _)))
 
-    -- where lower 3.0 was settled, as in every run from start, not even lower 3.0
+    -- where lower 3.0 was settled, as after any calls from a start, not even lower 3.0
     pub rejected-changes-settled : 3 < length (s .image) → Settled (s .image)
         → ChangesOnly (statusSet (has (p .group))) (s .image) (worked room s bytes l .image)
     unfolding closed
