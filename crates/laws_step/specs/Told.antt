@@ -1,9 +1,9 @@
 -- What is told of single events: the words of the theorems over the step.
 use mathlib.Core.Path.{_≡_}
 use mathlib.Core.Bool.{Bool, true, false, not}
-use mathlib.Core.List.{List, []}
+use mathlib.Core.List.{List}
 use mathlib.Core.Logic.{_⊎_}
-use Prim.Native.Nat.{ℕ, zero, suc, _+_, _-_, _*_, _≤_, _<_}
+use Prim.Native.Nat.{ℕ, suc, _+_, _-_, _*_, _≤_, _<_}
 use lib.Dec.{eqb, leb, ltb}
 use lib.ListN.{length, getD}
 use Rattle.bits.specs.Choice.{pick, both, either}
@@ -89,11 +89,6 @@ pub record PageRule (bank v : ℕ) (after : Image) : Type 0 where
 -- the state after a work step on a lane
 abbrev pub worked : ℕ → State → List ℕ → ℕ → State
 worked room s bytes l = stepOn room s (Work l) bytes .state
-
--- .. and after k of them
-unfoldable pub workedTimes : ℕ → ℕ → State → ℕ → State
-workedTimes zero room s l = s
-workedTimes (suc k) room s l = workedTimes k room (worked room s [] l) l
 
 -- a group has closed with a status: its lanes show it and are idle, and every other lane keeps its record
 pub record Closed (g code : ℕ) (before after : State) : Type 0 where
