@@ -18,18 +18,18 @@ use Rattle.model.specs.declared.event.Event.{Event}
 use Rattle.laws.specs.Calls.{Called, outcomeAt, stateAfter}
 
 -- a start that is done
-pub start-done : (x : Image) → startOutcome x .answer ≡ Done → startOutcome x .state ≡ started x
+start-done : (x : Image) → startOutcome x .answer ≡ Done → startOutcome x .state ≡ started x
 unfolding startOutcome startBy isDone pick
 start-done x d = rw (d, isDone, pick)
 
 module _ (P : State → Type 0) (kept : (room : ℕ) (s : State) (e : Event) → P s → P (step early room s e .state)) where
-  pub call-keeps : (s : State) (c : Called) → P s → P (outcomeAt s c .state)
+  call-keeps : (s : State) (c : Called) → P s → P (outcomeAt s c .state)
   unfolding callOutcome callBy stepOutcome unchanged pick
   call-keeps s c p = split (isDone (firstOf (entryRefusals s)))
       (λ d. rw (d, pick) (kept (length (c .buffer)) s (c .event) p))
       (λ d. rw (d, pick) p)
 
-  pub calls-keep : (s : State) (cs : List Called) → P s → P (stateAfter s cs)
+  calls-keep : (s : State) (cs : List Called) → P s → P (stateAfter s cs)
   unfolding stateAfter
   calls-keep s [] p = p
   calls-keep s (c ∷ cs) p = calls-keep (outcomeAt s c .state) cs (call-keeps s c p)
