@@ -119,7 +119,7 @@ module _ (from to : ℕ) where
 -- ---- the bytes of a write, in address order
 
 -- lower addresses are places themselves
-lower-written : (from to : ℕ) (vs : List ℕ) (a : ℕ) (s : State) → from ≤ a → a + length vs ≤ to → a + length vs ≤ 128 → Written from to s (bytesWritten a vs s)
+pub lower-written : (from to : ℕ) (vs : List ℕ) (a : ℕ) (s : State) → from ≤ a → a + length vs ≤ to → a + length vs ≤ 128 → Written from to s (bytesWritten a vs s)
 unfolding bytesWritten byteWritten placeOf pick
 lower-written from to [] a s lo hi e = unmarked from to s (s .image) (keeps-refl _ (s .image))
 lower-written from to (v ∷ vs) a s lo hi e =

@@ -29,11 +29,6 @@ stage-fits : (s : State) (l : ℕ) → isSound s ≡ true → l < 8 → stageFit
 unfolding isSound laneSound
 stage-fits s l o h = both-r _ _ (both-l _ _ (all-at 8 _ o l h))
 
--- a lane is in its own group
-pub own-lane : (s : State) (l : ℕ) (p : Progress) → isSound s ≡ true → l < 8 → stageAt (s .working) l ≡ InProgress p → has (p .group) l ≡ true
-unfolding stageFits
-own-lane s l p o h i = both-l _ _ (both-l _ _ (rw (i, stageFits) at (stage-fits s l o h)))
-
 -- a rejection's code is 2 to 7
 pub code-fits : (s : State) (l : ℕ) (p : Progress) (code : ℕ) → isSound s ≡ true → l < 8 → stageAt (s .working) l ≡ InProgress p → p .verdict ≡ Reject code
     → (2 ≤ code) × (code ≤ 7)

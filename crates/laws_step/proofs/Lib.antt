@@ -17,4 +17,5 @@ pub mod Moving
 pub mod Muting
 pub mod Sensing
 pub mod Reserving
+pub mod Calling
 pub mod Running

@@ -23,7 +23,8 @@ use Rattle.laws_step.proofs.Frames.{neither, unless, keeps-byte, lanes-
 use Rattle.laws_step.proofs.Places.{writable-in}
 use Rattle.laws_step.proofs.Bytes.{Written, part-written, place-past, place-moves}
 
-bytes-append : (a : ℕ) (us vs : List ℕ) (s : State) → bytesWritten a (us ++ vs) s ≡ bytesWritten (a + length us) vs (bytesWritten a us s)
+-- bytes written in two parts, one after the other
+pub bytes-append : (a : ℕ) (us vs : List ℕ) (s : State) → bytesWritten a (us ++ vs) s ≡ bytesWritten (a + length us) vs (bytesWritten a us s)
 unfolding bytesWritten
 bytes-append a [] vs s = rw add-zero
 bytes-append a (u ∷ us) vs s = let e : a + suc (length us) ≡ suc a + length us = omega arith in rw e (bytes-append (suc a) us vs (byteWritten a u s))

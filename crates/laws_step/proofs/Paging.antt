@@ -1,28 +1,31 @@
--- The page rule: what a byte written to 127 leaves in 126 and 127. Assumes nothing.
-use mathlib.Core.Path.{_≡_, refl, _∙_}
+-- The page rule: what a write that includes 127 leaves in 126 and 127. Assumes nothing.
+use mathlib.Core.Path.{_≡_, refl, ap, _∙_}
 use mathlib.Core.Bool.{Bool, true, false}
-use mathlib.Core.List.{List, _∷_}
+use mathlib.Core.List.{List, [], _∷_}
 use mathlib.Core.Logic.{_⊎_, inl, inr}
-use Prim.Native.Nat.{ℕ}
+use Prim.Native.Nat.{ℕ, zero, suc, _+_, _-_, _≤_, _<_}
 use native.Mathlib.Omega.{arith}
 use lib.Dec.{eqb, ltb}
-use lib.ListN.{length, getD, set, length-set}
-use lib.Seq.{getD-set-same, getD-set-other}
-use borrow.Author.Tests.{eqb-true, eqb-false, le-ltb}
+use lib.ListN.{length, getD, set, take, length-set}
+use lib.Seq.{getD-set-same, getD-set-other, length-take-le, take-suc}
+use borrow.Author.Tests.{eqb-true, eqb-false, le-ltb, lt-ltb, le-leb, lt-leb}
 use Rattle.bits.specs.Choice.{pick, both, either, implies}
 use Rattle.bits.proofs.Tests.{split, clash}
-use Rattle.model.specs.Map.{Image}
+use Rattle.model.specs.Map.{Image, imageLength, bankSelect, pageSelect, inRanges, writable}
 use Rattle.model.specs.Triggers.{State}
 use Rattle.model.specs.Pages.{findPage, pagePlace, placeOf, withPage, pageSelected}
-use Rattle.model.specs.Access.{stored, byteWritten, bytesWritten}
+use Rattle.model.specs.Access.{withImage, stored, byteWritten, bytesWritten, halfEnd}
 use Rattle.model.specs.Flags.{settled}
 use Rattle.model.specs.Step.{event, carried, done}
 use Rattle.model.specs.declared.answer.Answer.the-variants.{Done}
 use Rattle.model.specs.declared.event.Call.the-variants.{Write}
 use Rattle.model.specs.declared.page.PagePlace.the-variants.{Unsupported, At}
-use Rattle.laws_step.specs.Told.{stepOn, isSupported, PageRule}
+use Rattle.laws_step.specs.Told.{stepOn, isSupported, bankAt, PageRule}
 use Rattle.laws_step.proofs.Settling.{settled-byte}
 use Rattle.laws_step.proofs.Stepped.{done-step}
+use Rattle.laws_step.proofs.Bytes.{lower-written}
+use Rattle.laws_step.proofs.Middle.{bytes-append, in-the-middle}
+use Rattle.laws_step.proofs.Writing.{in-half}
 
 -- the lookup finds the pages that are supported, and no other
 Found : ℕ → ℕ → Type 0
@@ -49,7 +52,7 @@ page-found bank page = split (eqb page 0)
     (λ z. inr (rw (l, z, either, both), rw (a, b, c, z, both-no (eqb page 16), both-no (eqb page 17), both, pick))))))
 
 -- bytes 126 and 127 after it
-module _ (x : Image) (v : ℕ) (size : length x ≡ 768) where
+module _ (x : Image) (v : ℕ) (size : length x ≡ imageLength) where
   found-page : (start : ℕ) → pagePlace (getD x 126 0) v ≡ At start → (getD (pageSelected v x) 127 0 ≡ v) × (getD (pageSelected v x) 126 0 ≡ getD x 126 0)
   unfolding pageSelected
   found-page start e = (
@@ -64,21 +67,61 @@ module _ (x : Image) (v : ℕ) (size : length x ≡ 768) where
     rw (e, withPage) (getD-set-other (set x 126 0) 127 126 0 0 (omega arith) ∙ getD-set-same x 126 0 0 (omega arith)),
   )
 
-  rule : PageRule v x (pageSelected v x)
+  rule : PageRule (getD x 126 0) v (pageSelected v x)
   unfolding Found
   rule = elim (page-found (getD x 126 0) v) [
     | inl f ↦ record { supported = λ e. found-page (f .1) (f .2); otherwise = λ e. absurd (clash (f .0) e) }
     | inr f ↦ record { supported = λ e. absurd (clash e (f .0)); otherwise = λ e. reset-page (f .1) }
   ]
 
-  rule-settled : PageRule v x (settled (pageSelected v x))
+  rule-settled : PageRule (getD x 126 0) v (settled (pageSelected v x))
   rule-settled = record {
     supported = λ e. let r = rule .supported e in (settled-byte _ 127 (omega arith) ∙ r .0, settled-byte _ 126 (omega arith) ∙ r .1);
     otherwise = λ e. let r = rule .otherwise e in (settled-byte _ 127 (omega arith) ∙ r .0, settled-byte _ 126 (omega arith) ∙ r .1);
   }
 
--- a write of one byte to 127 that is done leaves 126 and 127 by the page rule
-pub page-rule : (room : ℕ) (s : State) (v : ℕ) (more : List ℕ) → length (s .image) ≡ 768 → stepOn room s (Write 127 1) (v ∷ more) .answer ≡ Done
-    → PageRule v (s .image) (stepOn room s (Write 127 1) (v ∷ more) .state .image)
-unfolding done carried bytesWritten byteWritten placeOf stored pick
-page-rule room s v more size d = rw (done-step room s (event (Write 127 1) (v ∷ more)) d) (rule-settled (s .image) v size)
+-- ---- a write that comes to 127
+
+module _ (s : State) (a k : ℕ) (bytes : List ℕ) (size : length (s .image) ≡ imageLength) (n : suc k ≤ length bytes) (e : a + k ≡ pageSelect) where
+  fits : length (take k bytes) ≡ k
+  fits = length-take-le k bytes (omega arith)
+
+  -- the state when its turn comes
+  until : State
+  until = bytesWritten a (take k bytes) s
+
+  until-size : length (until .image) ≡ imageLength
+  unfolding until
+  until-size = lower-written a 127 (take k bytes) a s (omega arith) (omega (arith, fits)) (omega (arith, fits)) .bits .size ∙ size
+
+  last-byte : bytesWritten a (take (suc k) bytes) s ≡ withImage until (pageSelected (getD bytes k 0) (until .image))
+  unfolding until bytesWritten byteWritten stored placeOf pick
+  last-byte = ap (λ vs. bytesWritten a vs s) (take-suc bytes k 0 (omega arith))
+      ∙ bytes-append a (take k bytes) (getD bytes k 0 ∷ []) s
+      ∙ rw (fits, e)
+
+-- 126 then holds the bank
+bank-until : (s : State) (a k : ℕ) (bytes : List ℕ) → length (s .image) ≡ imageLength → suc k ≤ length bytes → a + k ≡ pageSelect
+    → getD (bytesWritten a (take k bytes) s .image) bankSelect 0 ≡ bankAt (s .image) a bytes
+unfolding bytesWritten bankAt placeOf halfEnd writable inRanges both either pick
+bank-until s a zero bytes size n e = rw (lt-leb a 126 (omega arith), pick)
+bank-until s a (suc k) bytes size n e =
+    let q : 126 - a ≡ k = omega arith in
+    let p : placeOf (s .image) a + k ≡ 126 = rw (lt-ltb a 128 (omega arith), pick) (omega arith) in
+    rw (le-leb a 126 (omega arith), pick, q, take-suc bytes k 0 (omega arith))
+    (rw p at (in-the-middle a k (take k bytes) [] (getD bytes k 0) s (length-take-le k bytes (omega arith))
+    (rw (lt-ltb a 128 (omega arith), pick) (omega arith)) size (rw p) (λ f. refl)))
+
+-- a write that is done and that includes 127, its last byte then, leaves 126 and 127 by the page rule
+pub page-rule : (room : ℕ) (s : State) (address count : ℕ) (bytes : List ℕ) → length (s .image) ≡ imageLength → count ≤ length bytes
+    → stepOn room s (Write address count) bytes .answer ≡ Done → address ≤ pageSelect → pageSelect < address + count
+    → PageRule (bankAt (s .image) address bytes) (getD bytes (pageSelect - address) 0) (stepOn room s (Write address count) bytes .state .image)
+unfolding done carried halfEnd until pick
+page-rule room s address count bytes size n d lo hi =
+    let k = 127 - address in
+    let end : address + count ≤ 128 = rw (lt-ltb address 128 (omega arith), pick) at (in-half room s bytes address count d) in
+    let c : count ≡ suc k = omega arith in
+    let e : address + k ≡ 127 = omega arith in
+    let m : suc k ≤ length bytes = omega arith in
+    rw (done-step room s (event (Write address count) bytes) d, c, last-byte s address k bytes size m e, ← (bank-until s address k bytes size m e))
+    (rule-settled (until s address k bytes size m e .image) (getD bytes k 0) (until-size s address k bytes size m e))

@@ -152,7 +152,7 @@ module _ (room : ℕ) (s : State) (bytes : List ℕ) where
   stage-kept l (InProgress p) i t h = work-kept l p (p .verdict) h i refl
 
   -- work is done only on a lane in progress
-  work-on : (l : ℕ) → stepOn room s (Work l) bytes .answer ≡ Done → (l < 8) × (isInProgress (stageAt (s .working) l) ≡ true)
+  pub work-on : (l : ℕ) → stepOn room s (Work l) bytes .answer ≡ Done → (l < 8) × (isInProgress (stageAt (s .working) l) ≡ true)
   unfolding eventRefusals noSuchLane isDone
   work-on l d =
       let idle = not (isInProgress (stageAt (s .working) l)) in

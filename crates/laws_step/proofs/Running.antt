@@ -1,7 +1,7 @@
--- What holds after every event: lower 3.0 follows the flags, and in a run from start 11h:215-216 are 0. Assumes nothing.
+-- What holds after every event: lower 3.0 follows the flags, and after any calls from start 11h:215-216 are 0. Assumes nothing.
 use mathlib.Core.Path.{_≡_, refl, sym, ap, _∙_}
 use mathlib.Core.Bool.{true, false, not}
-use mathlib.Core.List.{List, [], _∷_}
+use mathlib.Core.List.{List}
 use mathlib.Core.Logic.{_↔_, inl, inr}
 use Prim.Native.Nat.{ℕ, _+_, _<_}
 use native.Mathlib.Omega.{arith}
@@ -15,20 +15,23 @@ use Rattle.bits.specs.Place.{get, digit}
 use Rattle.bits.proofs.Tests.{split, clash, both-l, both-r, pick-false}
 use Rattle.bits.proofs.Number.{field-past}
 use Rattle.bits.proofs.Loops.{all-at, tab-at, length-tab, none-any}
-use Rattle.model.specs.Map.{Image, interruptBit, kept, inRanges, flagBytes}
+use Rattle.model.specs.Map.{Image, imageLength, interruptBit, kept, inRanges, flagBytes}
 use Rattle.model.specs.Answers.{isDone}
 use Rattle.model.specs.Triggers.{State}
 use Rattle.model.specs.Work.{early}
 use Rattle.model.specs.Flags.{isUnmasked, interrupts, settled}
 use Rattle.model.specs.Start.{isStateByte, startValue, startByte, started}
-use Rattle.model.specs.Step.{step, done, carried, ending}
+use Rattle.model.specs.Step.{step, done, carried}
+use Rattle.model.specs.Outcome.{startOutcome}
 use Rattle.model.specs.declared.answer.Answer.the-variants.{Done}
 use Rattle.model.specs.declared.event.Event.{Event}
+use Rattle.laws.specs.Calls.{Called, stateAfter}
 use Rattle.laws.proofs.Unchanged.{done-is}
 use Rattle.laws_step.specs.Told.{UnmaskedFlag, Reserved, Settled}
 use Rattle.laws_step.proofs.Settling.{settled-changes, settled-if, settled-bit, settled-twice}
 use Rattle.laws_step.proofs.Stepped.{done-step, refused-step}
 use Rattle.laws_step.proofs.Reserving.{step-kept}
+use Rattle.laws_step.proofs.Calling.{calls-from-start}
 
 -- ---- one event
 
@@ -49,7 +52,7 @@ module _ (room : ℕ) (s : State) (e : Event) where
       (λ t. rw (done-step room s e (done-is _ t)) (settled-twice _))
       (λ t. rw (refused-step room s e (λ d. clash (ap isDone d) t)) k)
 
--- ---- a run from start
+-- ---- start
 
 module _ (x : Image) where
   start-byte : (i : ℕ) → i < 768 → getD (started x .image) i 0 ≡ startByte x i
@@ -86,26 +89,22 @@ module _ (x : Image) where
   unfolding started
   start-size = length-tab 768 (startByte x)
 
--- what holds at a state and is kept by every event holds after every list of events
-along : (P : State → Type 0) (room : ℕ) → ((s : State) (e : Event) → P s → P (step early room s e .state))
-    → (s : State) (es : List Event) → P s → P (ending early room s es)
-unfolding ending
-along P room h s [] p = p
-along P room h s (e ∷ es) p = along P room h (step early room s e .state) es (h s e p)
+-- ---- any calls after it
 
-module _ (x : Image) (room : ℕ) (es : List Event) where
-  -- the image keeps its 768 bytes
-  pub run-size : length (ending early room (started x) es .image) ≡ 768
-  run-size = along (λ s. length (s .image) ≡ 768) room (λ s e p. step-kept room s e .size ∙ p) (started x) es (start-size x)
+module _ (x : Image) (cs : List Called) (d : startOutcome x .answer ≡ Done) where
+  -- the image keeps its length
+  pub run-size : length (stateAfter (startOutcome x .state) cs .image) ≡ imageLength
+  run-size = calls-from-start (λ s. length (s .image) ≡ imageLength) (λ room s e p. step-kept room s e .size ∙ p) x cs d (start-size x)
 
   -- 11h:215-216 are 0
-  pub run-reserved : (i : ℕ) → Reserved i → getD (ending early room (started x) es .image) i 0 ≡ 0
-  run-reserved = along (λ s. (i : ℕ) → Reserved i → getD (s .image) i 0 ≡ 0) room
-      (λ s e p i r. step-kept room s e .reserved i r ∙ p i r) (started x) es (start-reserved x)
+  pub run-reserved : (i : ℕ) → Reserved i → getD (stateAfter (startOutcome x .state) cs .image) i 0 ≡ 0
+  run-reserved = calls-from-start (λ s. (i : ℕ) → Reserved i → getD (s .image) i 0 ≡ 0)
+      (λ room s e p i r. step-kept room s e .reserved i r ∙ p i r) x cs d (start-reserved x)
 
   -- lower 3.0 is settled, and so 0 exactly when an unmasked flag bit is 1
-  pub run-settled : Settled (ending early room (started x) es .image)
-  run-settled = along (λ s. Settled (s .image)) room (λ s e p. step-settled room s e p) (started x) es (start-settled x)
+  pub run-settled : Settled (stateAfter (startOutcome x .state) cs .image)
+  run-settled = calls-from-start (λ s. Settled (s .image)) (λ room s e p. step-settled room s e p) x cs d (start-settled x)
 
-  pub run-interrupt : (get (ending early room (started x) es .image) interruptBit ≡ 0) ↔ UnmaskedFlag (ending early room (started x) es .image)
-  run-interrupt = rw run-settled at (settled-bit (ending early room (started x) es .image) (omega (arith, run-size)))
+  pub run-interrupt : (get (stateAfter (startOutcome x .state) cs .image) interruptBit ≡ 0)
+      ↔ UnmaskedFlag (stateAfter (startOutcome x .state) cs .image)
+  run-interrupt = rw run-settled at (settled-bit (stateAfter (startOutcome x .state) cs .image) (omega (arith, run-size)))

@@ -1,10 +1,9 @@
 -- A work step on a lane in progress: a rejection closes in one step, and a pass copies one lane a step, ascending, and then closes. Assumes nothing.
 use mathlib.Core.Path.{_≡_, refl, ap, _∙_}
 use mathlib.Core.Bool.{Bool, true, false}
-use mathlib.Core.List.{List, []}
-use Prim.Native.Nat.{ℕ, zero, suc, _+_, _^_, _≤_, _<_}
+use mathlib.Core.List.{List}
+use Prim.Native.Nat.{ℕ, suc, _+_, _^_, _≤_, _<_}
 use native.Mathlib.Nat.{mod-eq-of-lt}
-use native.Mathlib.Decide.{decLt}
 use native.Mathlib.Omega.{arith}
 use lib.ListN.{length, getD}
 use borrow.Author.Tests.{lt-ltb, le-ltb}
@@ -18,7 +17,7 @@ use Rattle.bits.proofs.Lanes.{table-apart}
 use Rattle.bits.proofs.Masks.{next-le, next-bound}
 use Rattle.model.specs.Map.{Image, activeSet, settingAt, settingOffsets, settingWidths, statusAt, pendingAt, page11, on}
 use Rattle.model.specs.Statuses.{success}
-use Rattle.model.specs.Lanes.{stageAt, heldIn, withVerdict}
+use Rattle.model.specs.Lanes.{stageAt, heldIn}
 use Rattle.model.specs.View.{settingsAt, settingValues}
 use Rattle.model.specs.Triggers.{State, withStatus}
 use Rattle.model.specs.Work.{early, written, withActive, copyLane, copyNext, copyGroup, isRelease, withPending, pendingAfter, closed, closedPass, copied, workedBy}
@@ -29,19 +28,18 @@ use Rattle.model.specs.Step.{done}
 use Rattle.model.specs.declared.lane.Settings.{Settings}
 use Rattle.model.specs.declared.lane.Trigger.{Trigger}
 use Rattle.model.specs.declared.lane.Trigger.the-variants.{DpInit, Immediate}
-use Rattle.model.specs.declared.lane.Verdict.{Verdict}
 use Rattle.model.specs.declared.lane.Verdict.the-variants.{Pass, Reject}
 use Rattle.model.specs.declared.lane.Progress.{Progress}
-use Rattle.model.specs.declared.lane.Stage.the-variants.{Idle, InProgress}
+use Rattle.model.specs.declared.lane.Stage.the-variants.{InProgress}
 use Rattle.laws_step.specs.Changes.{ChangesOnly, orIn, interruptSet, statusSet, pendingSet, activeOf}
-use Rattle.laws_step.specs.Told.{Settled, worked, workedTimes, Closed, CopiedLane, pendingThen}
+use Rattle.laws_step.specs.Told.{Settled, worked, Closed, CopiedLane, pendingThen}
 use Rattle.laws_step.proofs.Frames.{unless, keeps-refl, keeps-put, keeps-then, keeps-left, keeps-right, keeps-each, keeps-lanes, keeps-lane, lanes-written, lanes-bytes}
 use Rattle.laws_step.proofs.Settling.{settled-changes, settled-stays, settled-lane, settled-setting}
 use Rattle.laws_step.proofs.Stepped.{work-done}
 use Rattle.laws_step.proofs.Places.{in-image}
 use Rattle.laws_step.proofs.Triggering.{status-changes}
 use Rattle.laws_step.proofs.Records.{freed-in, freed-out, advanced-in, advanced-out}
-use Rattle.laws_step.proofs.Held.{own-lane, code-fits, next-fits, written-fits}
+use Rattle.laws_step.proofs.Held.{code-fits, next-fits, written-fits}
 
 -- ---- what the parts of a step change
 
@@ -129,7 +127,7 @@ module _ (room : ℕ) (s : State) (bytes : List ℕ) (l : ℕ) (p : Progress) (h
     unfolding closed
     rejected-changes = rw reject-is (keeps-then (keeps-right _ (status-changes (has (p .group)) code (s .image))) (keeps-left _ (settled-changes _)))
 
-    -- where lower 3.0 was settled, as in every run from start, not even lower 3.0
+    -- where lower 3.0 was settled, as after any calls from a start, not even lower 3.0
     pub rejected-changes-settled : 3 < length (s .image) → Settled (s .image)
         → ChangesOnly (statusSet (has (p .group))) (s .image) (worked room s bytes l .image)
     unfolding closed
@@ -205,44 +203,3 @@ module _ (room : ℕ) (s : State) (bytes : List ℕ) (l : ℕ) (p : Progress) (h
         ∙ keeps-lane (status-changes _ _ _) (on page11 235) 1 m c refl
         (λ j k f g. unless (λ t. let r = lanes-bytes _ (on page11 202) 4 j k refl t in omega arith))
         ∙ pending-then (p .group) (s .image) _ _ m size c e)
-
--- ---- nine steps at most
-
-module _ (room l : ℕ) (h : l < 8) where
-  -- lane l is idle after at most k work steps on it
-  IdleWithin : ℕ → State → Type 0
-  IdleWithin k s = (j : ℕ) × (j ≤ k) × (stageAt (workedTimes j room s l .working) l ≡ Idle)
-
-  module _ (s : State) (p : Progress) (n : ℕ) (i : stageAt (s .working) l ≡ InProgress p) (v : p .verdict ≡ Pass n) (e : has (p .group) l ≡ true) where
-    -- the record after a copying step
-    goes-on : n < 8 → stageAt (worked room s [] l .working) l
-        ≡ InProgress (record { group = p .group; held = p .held; trigger = p .trigger; verdict = Pass (nextIn 8 (p .group) (suc n)) })
-    unfolding copied withVerdict
-    goes-on b = rw (copy-is room s [] l p h i n v b) (advanced-in (s .working) (p .group) (nextIn 8 (p .group) (suc n)) l h e ∙ rw (i, withVerdict))
-
-    closes : (k : ℕ) → 8 ≤ n → IdleWithin (suc k) s
-    unfolding IdleWithin workedTimes closedState closed
-    closes k b = (1, omega arith, rw (close-is room s [] l p h i n v b) (freed-in (s .working) (p .group) l h e))
-
-  pass-within : (fuel : ℕ) (s : State) (p : Progress) (n : ℕ) → stageAt (s .working) l ≡ InProgress p → p .verdict ≡ Pass n
-      → has (p .group) l ≡ true → 8 ≤ n + fuel → IdleWithin (suc fuel) s
-  unfolding IdleWithin workedTimes
-  pass-within zero s p n i v e f = closes s p n i v e 0 (omega arith)
-  pass-within (suc fuel) s p n i v e f = elim (decLt n 8) [
-    | no b ↦ closes s p n i v e (suc fuel) (omega arith)
-    | yes b ↦ let f : 8 ≤ nextIn 8 (p .group) (suc n) + fuel = omega (arith, next-le 8 (p .group) (suc n)) in
-        let r = pass-within fuel (worked room s [] l) _ (nextIn 8 (p .group) (suc n)) (goes-on s p n i v e b) refl e f in
-        (suc (r .0), omega arith, r .2)
-  ]
-
-  verdict-within : (s : State) (p : Progress) (w : Verdict) → p .verdict ≡ w → stageAt (s .working) l ≡ InProgress p → has (p .group) l ≡ true → IdleWithin 9 s
-  unfolding IdleWithin workedTimes closed
-  verdict-within s p (Reject code) v i e = (1, omega arith, rw (reject-is room s [] l p h i code v) (freed-in (s .working) (p .group) l h e))
-  verdict-within s p (Pass n) v i e = pass-within 8 s p n i v e (omega arith)
-
--- from a sound state a lane in progress is idle after at most nine work steps on it: a rejection takes one, a pass one for each lane of its group
--- and the closing one
-pub nine-steps : (room : ℕ) (s : State) (l : ℕ) (p : Progress) → isSound s ≡ true → l < 8 → stageAt (s .working) l ≡ InProgress p
-    → (k : ℕ) × (k ≤ 9) × (stageAt (workedTimes k room s l .working) l ≡ Idle)
-unfolding IdleWithin
-nine-steps room s l p o h i = verdict-within room l h s p (p .verdict) refl i (own-lane s l p o h i)

@@ -29,7 +29,8 @@ use Rattle.laws_step.proofs.Middle.{in-the-middle}
 use Rattle.laws_step.proofs.Bytes.{Written, part-written, place-past}
 
 module _ (room : ℕ) (s : State) (bytes : List ℕ) (address count : ℕ) (d : stepOn room s (Write address count) bytes .answer ≡ Done) where
-  in-half : address + count ≤ halfEnd address
+  -- an access does not leave its half
+  pub in-half : address + count ≤ halfEnd address
   unfolding eventRefusals isBadAccess isDone
   in-half = ltb-false (halfEnd address) (address + count)
       (either-r _ _ (either-r _ _ (not-refused BadAccess _ [] refl (none-refused room s (event (Write address count) bytes) d) .0)))

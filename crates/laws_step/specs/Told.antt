@@ -1,9 +1,9 @@
 -- What is told of single events: the words of the theorems over the step.
 use mathlib.Core.Path.{_≡_}
 use mathlib.Core.Bool.{Bool, true, false, not}
-use mathlib.Core.List.{List, []}
+use mathlib.Core.List.{List}
 use mathlib.Core.Logic.{_⊎_}
-use Prim.Native.Nat.{ℕ, zero, suc, _+_, _*_, _≤_, _<_}
+use Prim.Native.Nat.{ℕ, suc, _+_, _-_, _*_, _≤_, _<_}
 use lib.Dec.{eqb, leb, ltb}
 use lib.ListN.{length, getD}
 use Rattle.bits.specs.Choice.{pick, both, either}
@@ -75,21 +75,20 @@ writeSet from to before after = orIn (inBytes (writtenBytes from to)) (statusSet
 unfoldable pub isSupported : ℕ → ℕ → Bool
 isSupported bank page = either (ltb page 3) (both (eqb bank 0) (either (eqb page 0x10) (eqb page 0x11)))
 
--- the page rule for a byte v written to 127: a page that is supported is kept, and any other resets 126 and 127
-pub record PageRule (v : ℕ) (before after : Image) : Type 0 where
-  pub supported : isSupported (getD before bankSelect 0) v ≡ true → (getD after pageSelect 0 ≡ v) × (getD after bankSelect 0 ≡ getD before bankSelect 0)
-  pub otherwise : isSupported (getD before bankSelect 0) v ≡ false → (getD after pageSelect 0 ≡ 0) × (getD after bankSelect 0 ≡ 0)
+-- the bank when a write from an address comes to 127: the byte that it has written to 126, or what 126 held where it begins at 127
+unfoldable pub bankAt : Image → ℕ → List ℕ → ℕ
+bankAt before address bytes = pick (leb address bankSelect) (getD bytes (bankSelect - address) 0) (getD before bankSelect 0)
+
+-- the page rule for a byte v written to 127 in a bank: a page that is supported is kept in 127 and 126 holds the bank, and any other resets both
+pub record PageRule (bank v : ℕ) (after : Image) : Type 0 where
+  pub supported : isSupported bank v ≡ true → (getD after pageSelect 0 ≡ v) × (getD after bankSelect 0 ≡ bank)
+  pub otherwise : isSupported bank v ≡ false → (getD after pageSelect 0 ≡ 0) × (getD after bankSelect 0 ≡ 0)
 
 -- ---- work steps
 
 -- the state after a work step on a lane
 abbrev pub worked : ℕ → State → List ℕ → ℕ → State
 worked room s bytes l = stepOn room s (Work l) bytes .state
-
--- .. and after k of them
-unfoldable pub workedTimes : ℕ → ℕ → State → ℕ → State
-workedTimes zero room s l = s
-workedTimes (suc k) room s l = workedTimes k room (worked room s [] l) l
 
 -- a group has closed with a status: its lanes show it and are idle, and every other lane keeps its record
 pub record Closed (g code : ℕ) (before after : State) : Type 0 where

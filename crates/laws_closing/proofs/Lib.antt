@@ -1,0 +1,2 @@
+-- Nine work steps at most.
+pub mod NineSteps

@@ -1,0 +1,2 @@
+-- What it means that a group closes.
+pub mod Closing
