@@ -1,3 +1,4 @@
 -- The vocabulary of the laws of answers.
 pub mod Asked
 pub mod Left
+pub mod Calls

@@ -1,8 +1,7 @@
 -- A list of events and a night file say the same: the promise of specs/SaySame.antt, kept. Assumes nothing.
 use mathlib.Core.Path.{_≡_, refl, sym, ap, _∙_}
-use mathlib.Core.Bool.{true}
 use mathlib.Core.List.{List, [], _∷_, _++_}
-use Prim.Native.Nat.{ℕ, suc, _≤_}
+use Prim.Native.Nat.{ℕ, suc}
 use lib.ListN.{length, take, drop}
 use lib.Seq.{take-at, drop-at}
 use borrow.Author.Tests.{le-ltb}
@@ -11,15 +10,16 @@ use Rattle.bits.proofs.Loops.{length-tab}
 use Rattle.model.specs.Answers.{number, isDone}
 use Rattle.model.specs.Work.{early}
 use Rattle.model.specs.Start.{started}
-use Rattle.model.specs.Refusals.{firstOf, startRefusals, entryRefusals, listRefusals}
-use Rattle.model.specs.Step.{Out, ending}
-use Rattle.model.specs.Outcome.{laidOver, listRoom, numbersOf, listBy, listOutcome}
-use Rattle.model.specs.File.{recordCount, imageIn, eventAt, eventsIn, isWellFormed, foundBy, checked}
+use Rattle.model.specs.Refusals.{firstOf, listRefusals}
+use Rattle.model.specs.Step.{Out}
+use Rattle.model.specs.Outcome.{laidOver, listRoom, numbersOf, startBy, startOutcome, listBy, listOutcome}
+use Rattle.model.specs.File.{recordCount, imageIn, eventAt, eventsIn, foundBy, checked}
 use Rattle.model.specs.Text.{line}
 use Rattle.model.specs.Night.{linesFrom, nightOf, printedBy, printed}
 use Rattle.model.specs.declared.answer.Answer.the-variants.{Done}
-use Rattle.laws_sound.proofs.Reached.{never-refused}
-use Rattle.laws_list.specs.SaySame.{linesWith, shownIn, listCall, SaySame}
+use Rattle.laws_sound.specs.Reached.{Accepted}
+use Rattle.laws_sound.proofs.Reached.{start-leaves, start-accepted}
+use Rattle.laws_list.specs.SaySame.{linesWith, shownIn, Replayed, HasRoom, listCall, SaySame}
 use Rattle.laws_list.proofs.Runs.{length-run}
 use Rattle.laws_list.proofs.Admission.{list-good}
 
@@ -43,10 +43,9 @@ behind : (ns answers : List ℕ) (n : ℕ) → length ns ≡ n → drop n (laidO
 unfolding laidOver
 behind ns answers n e = drop-at ns _ n e ∙ ap (λ k. drop k answers) e
 
-module _ (file : List ℕ) (formed : isWellFormed file ≡ true) (taken : firstOf (startRefusals (imageIn file)) ≡ Done) where
-  entered : firstOf (entryRefusals (started (imageIn file))) ≡ Done
-  unfolding ending
-  entered = never-refused listRoom (imageIn file) [] taken
+module _ (file : List ℕ) (R : Replayed file) where
+  entered : Accepted (started (imageIn file))
+  entered = start-accepted (imageIn file) (R .taken)
 
   count-is : length (eventsIn file) ≡ recordCount file
   unfolding eventsIn
@@ -57,23 +56,23 @@ module _ (file : List ℕ) (formed : isWellFormed file ≡ true) (taken : firstO
   numbers-length = length-numbers _ ∙ length-run early listRoom (started (imageIn file)) (eventsIn file) ∙ count-is
 
   prints : printed file ≡ linesFrom 0 (nightOf file)
-  unfolding printed checked foundBy printedBy isDone pick
-  prints = rw (formed, taken)
+  unfolding printed checked foundBy printedBy startOutcome startBy isDone pick
+  prints = rw (R .formed, R .taken)
 
-  module _ (answers : List ℕ) (roomy : recordCount file ≤ length answers) where
+  module _ (answers : List ℕ) (roomy : HasRoom file answers) where
     admitted : firstOf (listRefusals (length answers) (started (imageIn file)) (length (eventsIn file))) ≡ Done
     unfolding isDone
     admitted = list-good (length answers) (started (imageIn file)) (length (eventsIn file)) (ap isDone entered) (rw count-is (le-ltb _ _ roomy))
 
     called : listCall file answers .buffer ≡ laidOver (numbersOf (nightOf file)) answers
     unfolding listOutcome listBy nightOf isDone pick
-    called = rw admitted
+    called = rw (start-leaves (imageIn file) (R .taken), admitted)
 
-    -- THE THEOREM: for every well-formed file whose image start takes, and every answer buffer with room for its records
+    -- THE THEOREM: for every file that is replayed, and every answer buffer with room for its records
     pub say-same : SaySame file answers
     unfolding listOutcome listBy isDone pick
     say-same = record {
-      taken = rw admitted;
+      taken = rw (start-leaves (imageIn file) (R .taken), admitted);
       same = prints ∙ lines-with 0 (nightOf file) ∙ ap (λ ns. linesWith 0 ns (shownIn (nightOf file))) (sym (ap (take (recordCount file)) called ∙ front _ answers _ numbers-length));
       rest = ap (drop (recordCount file)) called ∙ behind _ answers _ numbers-length;
     }

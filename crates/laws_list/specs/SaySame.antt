@@ -1,15 +1,16 @@
 -- THE PROMISE about lists and files: the answers that the list call gives for a file's records are those that the file's lines print.
 use mathlib.Core.Path.{_≡_}
+use mathlib.Core.Bool.{true}
 use mathlib.Core.List.{List, [], _∷_, _++_, map}
-use Prim.Native.Nat.{ℕ, suc}
-use lib.ListN.{take, drop}
-use Rattle.model.specs.Start.{started}
+use Prim.Native.Nat.{ℕ, suc, _≤_}
+use lib.ListN.{length, take, drop}
 use Rattle.model.specs.Step.{Out}
-use Rattle.model.specs.Outcome.{Outcome, listOutcome}
-use Rattle.model.specs.File.{recordCount, imageIn, eventsIn}
+use Rattle.model.specs.Outcome.{Outcome, startOutcome, listOutcome}
+use Rattle.model.specs.File.{recordCount, imageIn, eventsIn, isWellFormed}
 use Rattle.model.specs.Text.{line}
 use Rattle.model.specs.Night.{nightOf, printed}
 use Rattle.model.specs.declared.answer.Answer.the-variants.{Done}
+use Rattle.laws_sound.specs.Reached.{StartDone}
 
 -- lines from an index on: their answers' numbers, and the bytes that each shows
 unfoldable pub linesWith : ℕ → List ℕ → List (List ℕ) → List ℕ
@@ -21,9 +22,18 @@ linesWith index (a ∷ answers) (bytes ∷ shown) = line index a bytes ++ linesW
 unfoldable pub shownIn : List Out → List (List ℕ)
 shownIn os = map (λ o. o .bytes) os
 
--- the list call on a file's records, from the file's image as it starts
+-- a file that is replayed: it is well formed, and start of its image is done
+pub record Replayed (file : List ℕ) : Type 0 where
+  pub formed : isWellFormed file ≡ true
+  pub taken : StartDone (imageIn file)
+
+-- the answer buffer has room for every record
+abbrev pub HasRoom : List ℕ → List ℕ → Type 0
+HasRoom file answers = recordCount file ≤ length answers
+
+-- the list call on a file's records, after start of the file's image
 abbrev pub listCall : List ℕ → List ℕ → Outcome
-listCall file answers = listOutcome (started (imageIn file)) answers (eventsIn file)
+listCall file answers = listOutcome (startOutcome (imageIn file) .state) answers (eventsIn file)
 
 -- it is not refused; its answers, one for each record, are those of the printed lines; the rest of the buffer is as it was
 pub record SaySame (file answers : List ℕ) : Type 0 where
