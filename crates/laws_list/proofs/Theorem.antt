@@ -3,7 +3,6 @@ use mathlib.Core.Path.{_≡_, refl, sym, ap, _∙_}
 use mathlib.Core.List.{List, [], _∷_, _++_}
 use Prim.Native.Nat.{ℕ, suc}
 use lib.ListN.{length, take, drop}
-use lib.Seq.{take-at, drop-at}
 use borrow.Author.Tests.{le-ltb}
 use Rattle.bits.specs.Choice.{pick}
 use Rattle.bits.proofs.Loops.{length-tab}
@@ -17,6 +16,7 @@ use Rattle.model.specs.File.{recordCount, imageIn, eventAt, eventsIn, foundBy, 
 use Rattle.model.specs.Text.{line}
 use Rattle.model.specs.Night.{linesFrom, nightOf, printedBy, printed}
 use Rattle.model.specs.declared.answer.Answer.the-variants.{Done}
+use Rattle.laws.proofs.Unchanged.{laid-front, laid-rest}
 use Rattle.laws_sound.specs.Reached.{Accepted}
 use Rattle.laws_sound.proofs.Reached.{start-leaves, start-accepted}
 use Rattle.laws_list.specs.SaySame.{linesWith, shownIn, Replayed, HasRoom, listCall, SaySame}
@@ -33,15 +33,6 @@ length-numbers : (os : List Out) → length (numbersOf os) ≡ length os
 unfolding numbersOf
 length-numbers [] = refl
 length-numbers (o ∷ os) = ap suc (length-numbers os)
-
--- numbers that lie over the front of a buffer, and the rest of it
-front : (ns answers : List ℕ) (n : ℕ) → length ns ≡ n → take n (laidOver ns answers) ≡ ns
-unfolding laidOver
-front ns answers n e = take-at ns _ n e
-
-behind : (ns answers : List ℕ) (n : ℕ) → length ns ≡ n → drop n (laidOver ns answers) ≡ drop n answers
-unfolding laidOver
-behind ns answers n e = drop-at ns _ n e ∙ ap (λ k. drop k answers) e
 
 module _ (file : List ℕ) (R : Replayed file) where
   entered : Accepted (started (imageIn file))
@@ -73,6 +64,6 @@ module _ (file : List ℕ) (R : Replayed file) where
     unfolding listOutcome listBy isDone pick
     say-same = record {
       taken = rw (start-leaves (imageIn file) (R .taken), admitted);
-      same = prints ∙ lines-with 0 (nightOf file) ∙ ap (λ ns. linesWith 0 ns (shownIn (nightOf file))) (sym (ap (take (recordCount file)) called ∙ front _ answers _ numbers-length));
-      rest = ap (drop (recordCount file)) called ∙ behind _ answers _ numbers-length;
+      same = prints ∙ lines-with 0 (nightOf file) ∙ ap (λ ns. linesWith 0 ns (shownIn (nightOf file))) (sym (ap (take (recordCount file)) called ∙ laid-front (recordCount file) _ answers numbers-length));
+      rest = ap (drop (recordCount file)) called ∙ laid-rest (recordCount file) _ answers numbers-length;
     }
