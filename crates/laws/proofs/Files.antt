@@ -6,7 +6,7 @@ use mathlib.Core.Logic.{_↔_, _≢_}
 use Prim.Native.Nat.{ℕ, zero, suc, _+_, _*_, _≤_, _<_}
 use native.Mathlib.Decide.{ℕ-discrete}
 use native.Mathlib.Omega.{arith}
-use lib.Dec.{eqb, ltb}
+use lib.Dec.{ltb}
 use lib.ListN.{length, take, drop, length-take, length-drop}
 use borrow.Author.Tests.{ltb-true, ltb-false, leb-true, leb-false, eqb-true, eqb-false, lt-ltb, le-leb, eq-eqb, ne-eqb}
 use Rattle.bits.specs.Choice.{pick, both, implies}
@@ -17,7 +17,7 @@ use Rattle.model.specs.Map.{imageLength}
 use Rattle.model.specs.Answers.{number, isDone}
 use Rattle.model.specs.Refusals.{firstOf, isFlat, isBackToFront, wrongLength, imageRefusals, startRefusals}
 use Rattle.model.specs.Outcome.{startBy, startOutcome}
-use Rattle.model.specs.File.{recordsOffset, recordLength, recordLimit, imageOffset, recordCount, isHeader, isWholeLength, imageIn, recordByte, kindOf, writeKind, readKind, workKind, hardwareKind, conditionKind, sampleKind, dataStart, dataLimit, usedBytes, isRecord, isWellFormed, foundBy, checked}
+use Rattle.model.specs.File.{recordsOffset, recordLength, recordLimit, imageOffset, recordCount, isHeader, isWholeLength, imageIn, recordByte, kindOf, writeKind, readKind, workKind, hardwareKind, conditionKind, sampleKind, dataLimit, usedBytes, isRecord, isWellFormed, foundBy, checked}
 use Rattle.model.specs.declared.answer.Answer.the-variants.{WrongLength, FlatMemory, Malformed, BackToFront}
 use Rattle.model.specs.declared.file.FileCheck.{FileCheck}
 use Rattle.model.specs.declared.file.FileCheck.the-variants.{Refused, Good}

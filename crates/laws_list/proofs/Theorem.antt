@@ -2,22 +2,26 @@
 use mathlib.Core.Path.{_≡_, refl, sym, ap, _∙_}
 use mathlib.Core.List.{List, [], _∷_, _++_}
 use Prim.Native.Nat.{ℕ, suc}
+use native.Mathlib.Omega.{arith}
 use lib.ListN.{length, take, drop}
 use borrow.Author.Tests.{le-ltb}
 use Rattle.bits.specs.Choice.{pick}
+use Rattle.bits.proofs.Tests.{split}
 use Rattle.bits.proofs.Loops.{length-tab}
 use Rattle.model.specs.Answers.{number, isDone}
 use Rattle.model.specs.Work.{early}
 use Rattle.model.specs.Start.{started}
-use Rattle.model.specs.Refusals.{firstOf, listRefusals}
+use Rattle.model.specs.Refusals.{firstOf, startRefusals, listRefusals}
 use Rattle.model.specs.Step.{Out}
 use Rattle.model.specs.Outcome.{laidOver, listRoom, numbersOf, startBy, startOutcome, listBy, listOutcome}
-use Rattle.model.specs.File.{recordCount, imageIn, eventAt, eventsIn, foundBy, checked}
+use Rattle.model.specs.File.{recordCount, imageIn, eventAt, eventsIn, isWellFormed, foundBy, checked}
 use Rattle.model.specs.Text.{line}
 use Rattle.model.specs.Night.{linesFrom, nightOf, printedBy, printed}
+use Rattle.model.specs.declared.answer.Answer.{Answer}
 use Rattle.model.specs.declared.answer.Answer.the-variants.{Done}
-use Rattle.laws.proofs.Unchanged.{laid-front, laid-rest}
-use Rattle.laws_sound.specs.Reached.{Accepted}
+use Rattle.model.specs.declared.file.FileCheck.the-variants.{Refused, Good}
+use Rattle.laws.proofs.Unchanged.{done-is, laid-front, laid-rest}
+use Rattle.laws_sound.specs.Reached.{Accepted, StartDone}
 use Rattle.laws_sound.proofs.Reached.{start-leaves, start-accepted}
 use Rattle.laws_list.specs.SaySame.{linesWith, shownIn, Replayed, HasRoom, listCall, SaySame}
 use Rattle.laws_list.proofs.Runs.{length-run}
@@ -34,9 +38,22 @@ unfolding numbersOf
 length-numbers [] = refl
 length-numbers (o ∷ os) = ap suc (length-numbers os)
 
-module _ (file : List ℕ) (R : Replayed file) where
+-- what is refused is not good
+not-good : (a : Answer) (n : ℕ) → Refused a ≡ Good n → ⊥
+not-good a n e = let z : _≡_ {A = ℕ} 0 1 = cc in omega arith
+
+module _ (file : List ℕ) (replayed : Replayed file) where
+  -- start of its image is done
+  begins : StartDone (imageIn file)
+  unfolding checked foundBy startOutcome startBy pick
+  begins = split (isWellFormed file)
+      (λ w. split (isDone (firstOf (startRefusals (imageIn file))))
+      (λ d. done-is _ d)
+      (λ d. absurd (not-good _ _ (rw (w, d, pick) at replayed))))
+      (λ w. absurd (not-good _ _ (rw (w, pick) at replayed)))
+
   entered : Accepted (started (imageIn file))
-  entered = start-accepted (imageIn file) (R .taken)
+  entered = start-accepted (imageIn file) begins
 
   count-is : length (eventsIn file) ≡ recordCount file
   unfolding eventsIn
@@ -47,8 +64,8 @@ module _ (file : List ℕ) (R : Replayed file) where
   numbers-length = length-numbers _ ∙ length-run early listRoom (started (imageIn file)) (eventsIn file) ∙ count-is
 
   prints : printed file ≡ linesFrom 0 (nightOf file)
-  unfolding printed checked foundBy printedBy startOutcome startBy isDone pick
-  prints = rw (R .formed, R .taken)
+  unfolding printed printedBy
+  prints = ap (λ found. printedBy found file) replayed
 
   module _ (answers : List ℕ) (roomy : HasRoom file answers) where
     admitted : firstOf (listRefusals (length answers) (started (imageIn file)) (length (eventsIn file))) ≡ Done
@@ -57,13 +74,13 @@ module _ (file : List ℕ) (R : Replayed file) where
 
     called : listCall file answers .buffer ≡ laidOver (numbersOf (nightOf file)) answers
     unfolding listOutcome listBy nightOf isDone pick
-    called = rw (start-leaves (imageIn file) (R .taken), admitted)
+    called = rw (start-leaves (imageIn file) begins, admitted)
 
     -- THE THEOREM: for every file that is replayed, and every answer buffer with room for its records
     pub say-same : SaySame file answers
     unfolding listOutcome listBy isDone pick
     say-same = record {
-      taken = rw (start-leaves (imageIn file) (R .taken), admitted);
+      taken = rw (start-leaves (imageIn file) begins, admitted);
       same = prints ∙ lines-with 0 (nightOf file) ∙ ap (λ ns. linesWith 0 ns (shownIn (nightOf file))) (sym (ap (take (recordCount file)) called ∙ laid-front (recordCount file) _ answers numbers-length));
       rest = ap (drop (recordCount file)) called ∙ laid-rest (recordCount file) _ answers numbers-length;
     }

@@ -1,16 +1,15 @@
 -- THE PROMISE about lists and files: the answers that the list call gives for a file's records are those that the file's lines print.
 use mathlib.Core.Path.{_≡_}
-use mathlib.Core.Bool.{true}
 use mathlib.Core.List.{List, [], _∷_, _++_, map}
 use Prim.Native.Nat.{ℕ, suc, _≤_}
 use lib.ListN.{length, take, drop}
 use Rattle.model.specs.Step.{Out}
 use Rattle.model.specs.Outcome.{Outcome, startOutcome, listOutcome}
-use Rattle.model.specs.File.{recordCount, imageIn, eventsIn, isWellFormed}
+use Rattle.model.specs.File.{recordCount, imageIn, eventsIn, checked}
 use Rattle.model.specs.Text.{line}
 use Rattle.model.specs.Night.{nightOf, printed}
 use Rattle.model.specs.declared.answer.Answer.the-variants.{Done}
-use Rattle.laws_sound.specs.Reached.{StartDone}
+use Rattle.model.specs.declared.file.FileCheck.the-variants.{Good}
 
 -- lines from an index on: their answers' numbers, and the bytes that each shows
 unfoldable pub linesWith : ℕ → List ℕ → List (List ℕ) → List ℕ
@@ -22,10 +21,9 @@ linesWith index (a ∷ answers) (bytes ∷ shown) = line index a bytes ++ linesW
 unfoldable pub shownIn : List Out → List (List ℕ)
 shownIn os = map (λ o. o .bytes) os
 
--- a file that is replayed: it is well formed, and start of its image is done
-pub record Replayed (file : List ℕ) : Type 0 where
-  pub formed : isWellFormed file ≡ true
-  pub taken : StartDone (imageIn file)
+-- a file that is replayed: the check of it finds nothing to refuse
+abbrev pub Replayed : List ℕ → Type 0
+Replayed file = checked file ≡ Good (recordCount file)
 
 -- the answer buffer has room for every record
 abbrev pub HasRoom : List ℕ → List ℕ → Type 0
