@@ -3,4 +3,5 @@ pub mod Answered
 pub mod Files
 pub mod Printed
 pub mod Unchanged
+pub mod Reading
 pub mod Unique

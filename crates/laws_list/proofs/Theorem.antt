@@ -1,4 +1,4 @@
--- A list of events and a night file say the same: the promise of specs/SaySame.antt, kept. Assumes nothing.
+-- Public calls, a list of events and a night file say the same: the promises of specs/SaySame.antt, kept. Assumes nothing.
 use mathlib.Core.Path.{_≡_, refl, sym, ap, _∙_}
 use mathlib.Core.List.{List, [], _∷_, _++_}
 use Prim.Native.Nat.{ℕ, suc}
@@ -9,23 +9,36 @@ use Rattle.bits.specs.Choice.{pick}
 use Rattle.bits.proofs.Tests.{split}
 use Rattle.bits.proofs.Loops.{length-tab}
 use Rattle.model.specs.Answers.{number, isDone}
+use Rattle.model.specs.Triggers.{State}
 use Rattle.model.specs.Work.{early}
 use Rattle.model.specs.Start.{started}
 use Rattle.model.specs.Refusals.{firstOf, startRefusals, listRefusals}
-use Rattle.model.specs.Step.{Out}
-use Rattle.model.specs.Outcome.{laidOver, listRoom, numbersOf, startBy, startOutcome, listBy, listOutcome}
+use Rattle.model.specs.Step.{Out, step, run}
+use Rattle.model.specs.Outcome.{laidOver, listRoom, numbersOf, startBy, startOutcome, stepOutcome, listBy, listOutcome}
 use Rattle.model.specs.File.{recordCount, imageIn, eventAt, eventsIn, isWellFormed, foundBy, checked}
 use Rattle.model.specs.Text.{line}
 use Rattle.model.specs.Night.{linesFrom, nightOf, printedBy, printed}
 use Rattle.model.specs.declared.answer.Answer.{Answer}
 use Rattle.model.specs.declared.answer.Answer.the-variants.{Done}
 use Rattle.model.specs.declared.file.FileCheck.the-variants.{Refused, Good}
+use Rattle.laws.specs.Calls.{Called}
 use Rattle.laws.proofs.Unchanged.{done-is, laid-front, laid-rest}
-use Rattle.laws_sound.specs.Reached.{Accepted, StartDone}
-use Rattle.laws_sound.proofs.Reached.{start-leaves, start-accepted}
-use Rattle.laws_list.specs.SaySame.{linesWith, shownIn, Replayed, HasRoom, listCall, SaySame}
+use Rattle.laws.proofs.Reading.{step-gives}
+use Rattle.laws_sound.specs.Reached.{Accepted, StartDone, eventsOf, Roomy, none, one}
+use Rattle.laws_sound.proofs.Reached.{start-leaves, start-accepted, still-accepted, call-is-step}
+use Rattle.laws_sound.proofs.Once.{same-step}
+use Rattle.laws_list.specs.SaySame.{Replayed, CallsOf, linesOf, linesWith, shownIn, HasRoom, listCall, SaySame}
 use Rattle.laws_list.proofs.Runs.{length-run}
 use Rattle.laws_list.proofs.Admission.{list-good}
+
+-- the lines of a run are those of calls, each lent a buffer with room for any read
+run-lines : (index : ℕ) (s : State) (cs : List Called) → Accepted s → Roomy cs → linesFrom index (run early listRoom s (eventsOf cs)) ≡ linesOf index s cs
+unfolding linesFrom run linesOf stepOutcome
+run-lines index s [] a none = refl
+run-lines index s (c ∷ cs) a (one n r) =
+    let o : Out = step early listRoom s (c .event) in
+    rw (call-is-step s c a, same-step (length (c .buffer)) s (c .event) n, step-gives early s listRoom (c .event) (c .buffer))
+    (ap (λ text. line index (number (o .answer)) (o .bytes) ++ text) (run-lines (suc index) (o .state) cs (still-accepted listRoom s (c .event) a) r))
 
 -- the lines of steps are the lines with the steps' numbers and bytes
 lines-with : (index : ℕ) (os : List Out) → linesFrom index os ≡ linesWith index (numbersOf os) (shownIn os)
@@ -67,6 +80,13 @@ module _ (file : List ℕ) (replayed : Replayed file) where
   unfolding printed printedBy
   prints = ap (λ found. printedBy found file) replayed
 
+  -- THE THEOREM for every file that is replayed, and all calls of its records: it prints what they give
+  pub file-is-calls : (cs : List Called) → CallsOf file cs → printed file ≡ linesOf 0 (startOutcome (imageIn file) .state) cs
+  unfolding nightOf
+  file-is-calls cs C =
+      rw (start-leaves (imageIn file) begins)
+      (prints ∙ ap (λ es. linesFrom 0 (run early listRoom (started (imageIn file)) es)) (sym (C .events)) ∙ run-lines 0 (started (imageIn file)) cs entered (C .roomy))
+
   module _ (answers : List ℕ) (roomy : HasRoom file answers) where
     admitted : firstOf (listRefusals (length answers) (started (imageIn file)) (length (eventsIn file))) ≡ Done
     unfolding isDone
@@ -76,7 +96,7 @@ module _ (file : List ℕ) (replayed : Replayed file) where
     unfolding listOutcome listBy nightOf isDone pick
     called = rw (start-leaves (imageIn file) begins, admitted)
 
-    -- THE THEOREM: for every file that is replayed, and every answer buffer with room for its records
+    -- THE THEOREM for every file that is replayed, and every answer buffer with room for its records
     pub say-same : SaySame file answers
     unfolding listOutcome listBy isDone pick
     say-same = record {

@@ -59,7 +59,7 @@ same-refusals room s (Hardware l) n = refl
 same-refusals room s (Condition flag mask) n = refl
 same-refusals room s (Sample l p) n = refl
 
-same-step : (room : ℕ) (s : State) (e : Event) → listRoom ≤ room → step early room s e ≡ step early listRoom s e
+pub same-step : (room : ℕ) (s : State) (e : Event) → listRoom ≤ room → step early room s e ≡ step early listRoom s e
 unfolding step
 same-step room s e n = rw (same-refusals room s (e .call) n)
 

@@ -13,14 +13,16 @@ use Rattle.model.specs.Work.{early, late}
 use Rattle.model.specs.Step.{step}
 use Rattle.model.specs.Outcome.{Outcome, startOutcome, stepOutcome}
 use Rattle.model.specs.declared.event.Event.{Event}
+use Rattle.laws.specs.Reading.{readCount}
 use Rattle.laws.specs.Calls.{Called, outcomeAt, outcomes, stateAfter}
+use Rattle.laws.proofs.Reading.{step-reads}
 use Rattle.laws_frames.proofs.Registers.{setLength, settings-at-same}
 use Rattle.laws_sound.specs.Reached.{Accepted, StartDone, reachedBy, along, through}
 use Rattle.laws_sound.proofs.Reached.{start-leaves, start-accepted, still-accepted, call-is-step}
-use Rattle.laws_whole.specs.Whole.{wholeAt, comparedBy, hidden, hiddenRead, readCount, SameState, SameStep, SameOutcome, Reached, begun, then}
+use Rattle.laws_whole.specs.Whole.{wholeAt, comparedBy, hidden, SameState, SameStep, SameOutcome, Reached, begun, then}
 use Rattle.laws_whole.proofs.Agree.{alike-below, alike-above, alike-setting}
 use Rattle.laws_whole.proofs.Runs.{same-state, both-step, reached-twin}
-use Rattle.laws_whole.proofs.Buffers.{step-reads, same-buffer}
+use Rattle.laws_whole.proofs.Buffers.{same-buffer, untouched-buffer}
 
 -- ---- what two such states have in common
 
@@ -74,7 +76,10 @@ module _ (s a : State) (c : Called) (B : Beside s a) where
       rw (call-is-step s c (B .accepted)) (record {
         answer = S .answer;
         mask = S .mask;
-        buffer = same-buffer (hiddenRead s (c .event .call)) (readCount (c .event .call)) _ _ (c .buffer) (S .bytes) (step-reads early s (length (c .buffer)) (c .event));
+        buffer = elim (step-reads early s (length (c .buffer)) (c .event)) [
+          | inl r ↦ same-buffer _ _ _ (c .buffer) (S .bytes) (readCount (c .event .call)) (r .1)
+          | inr r ↦ untouched-buffer _ _ _ (c .buffer) (S .bytes) (readCount (c .event .call)) (r .1)
+        ];
         state = S .state;
       })
 

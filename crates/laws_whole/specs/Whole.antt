@@ -20,6 +20,7 @@ use Rattle.model.specs.declared.event.Call.{Call}
 use Rattle.model.specs.declared.event.Call.the-variants.{Write, Read, Work, Hardware, Condition, Sample}
 use Rattle.model.specs.declared.event.Event.{Event}
 use Rattle.model.specs.declared.lane.Working.{Working}
+use Rattle.laws.specs.Reading.{readCount}
 use Rattle.laws.specs.Calls.{Called}
 use Rattle.laws_sound.specs.Reached.{through}
 
@@ -76,15 +77,6 @@ readAddress (Sample l p) = 0
 -- bit b of the k-th byte that the event reads in a state is hidden there
 unfoldable pub hiddenRead : State → Call → ℕ → ℕ → Bool
 hiddenRead s c k b = hidden (s .working) (placeOf (s .image) (readAddress c) + k) b
-
--- how many bytes an event reads
-abbrev pub readCount : Call → ℕ
-readCount (Write address count) = 0
-readCount (Read address count) = count
-readCount (Work l) = 0
-readCount (Hardware l) = 0
-readCount (Condition flag mask) = 0
-readCount (Sample l p) = 0
 
 -- two buffers left of one that was lent: their first n bytes are alike but for excepted bits, and the rest of each is untouched
 pub record SameBuffer (except : ℕ → ℕ → Bool) (n : ℕ) (lent xs ys : List ℕ) : Type 0 where
