@@ -103,7 +103,8 @@ unfolding callOutcome callBy stepOutcome unchanged pick
 call-answer s buffer e = rw entry-first (split (isDone (firstOf (entryRefusals s)))
     (λ d. rw (d, pick) (step-answer (length buffer) s e)) (λ d. rw (d, pick)))
 
-list-answer : (s : State) (answers : List ℕ) (es : List Event) → listOutcome s answers es .answer ≡ firstOf (listRefusals (length answers) s (length es))
+-- a list of events answers what its refusals say
+pub list-answer : (s : State) (answers : List ℕ) (es : List Event) → listOutcome s answers es .answer ≡ firstOf (listRefusals (length answers) s (length es))
 unfolding listOutcome listBy unchanged pick
 list-answer s answers es = split (isDone (firstOf (listRefusals (length answers) s (length es)))) (λ d. rw (d, pick)) (λ d. rw (d, pick))
 

@@ -1,4 +1,7 @@
 -- The laws of answers: the refusal list, what a refusal leaves, and that a contract admits one outcome.
 pub mod Answered
+pub mod Files
+pub mod Printed
 pub mod Unchanged
+pub mod Reading
 pub mod Unique

@@ -1,11 +1,11 @@
 -- A refusal changes nothing, and a call that is done leaves the rest of its buffer alone (01 "When the desk says no"). Assumes nothing.
-use mathlib.Core.Path.{_≡_, refl, ap}
+use mathlib.Core.Path.{_≡_, refl, ap, _∙_}
 use mathlib.Core.Bool.{true}
 use mathlib.Core.List.{List, [], _∷_}
 use Prim.Native.Nat.{ℕ, suc, _≤_}
 use native.Mathlib.Omega.{arith}
-use lib.ListN.{length, length-append, length-drop, length-map}
-use lib.Seq.{take-append-seam, drop-append-seam}
+use lib.ListN.{length, take, drop, length-append, length-drop, length-map}
+use lib.Seq.{take-at, drop-at}
 use borrow.Author.Tests.{ltb-false}
 use Rattle.bits.specs.Choice.{pick}
 use Rattle.bits.proofs.Tests.{split, clash}
@@ -73,13 +73,22 @@ refusal-changes-nothing (list s answers es) = list-cases s answers es
 
 -- ---- a call that is done
 
+-- bytes laid over a buffer are its front, and the rest of it is as it was
+pub laid-front : (n : ℕ) (bytes buffer : List ℕ) → length bytes ≡ n → take n (laidOver bytes buffer) ≡ bytes
+unfolding laidOver
+laid-front n bytes buffer e = take-at bytes _ n e
+
+pub laid-rest : (n : ℕ) (bytes buffer : List ℕ) → length bytes ≡ n → drop n (laidOver bytes buffer) ≡ drop n buffer
+unfolding laidOver
+laid-rest n bytes buffer e = drop-at bytes _ n e ∙ ap (λ k. drop k buffer) e
+
 front : (n : ℕ) (bytes buffer : List ℕ) → length bytes ≡ n → n ≤ length buffer → Fronted n bytes buffer (laidOver bytes buffer)
 unfolding laidOver
 front n bytes buffer e b =
     record {
       size = simp (length-append, length-drop) (omega arith);
-      front = rw (← e) (take-append-seam bytes _);
-      rest = rw (← e) (drop-append-seam bytes _);
+      front = laid-front n bytes buffer e;
+      rest = laid-rest n bytes buffer e;
     }
 
 -- a call that is done is a step that is done

@@ -1,27 +1,44 @@
--- A list of events and a night file say the same: the promise of specs/SaySame.antt, kept. Assumes nothing.
+-- Public calls, a list of events and a night file say the same: the promises of specs/SaySame.antt, kept. Assumes nothing.
 use mathlib.Core.Path.{_≡_, refl, sym, ap, _∙_}
-use mathlib.Core.Bool.{true}
 use mathlib.Core.List.{List, [], _∷_, _++_}
-use Prim.Native.Nat.{ℕ, suc, _≤_}
+use Prim.Native.Nat.{ℕ, suc}
+use native.Mathlib.Omega.{arith}
 use lib.ListN.{length, take, drop}
-use lib.Seq.{take-at, drop-at}
 use borrow.Author.Tests.{le-ltb}
 use Rattle.bits.specs.Choice.{pick}
+use Rattle.bits.proofs.Tests.{split}
 use Rattle.bits.proofs.Loops.{length-tab}
 use Rattle.model.specs.Answers.{number, isDone}
+use Rattle.model.specs.Triggers.{State}
 use Rattle.model.specs.Work.{early}
 use Rattle.model.specs.Start.{started}
-use Rattle.model.specs.Refusals.{firstOf, startRefusals, entryRefusals, listRefusals}
-use Rattle.model.specs.Step.{Out, ending}
-use Rattle.model.specs.Outcome.{laidOver, listRoom, numbersOf, listBy, listOutcome}
+use Rattle.model.specs.Refusals.{firstOf, startRefusals, listRefusals}
+use Rattle.model.specs.Step.{Out, step, run}
+use Rattle.model.specs.Outcome.{laidOver, listRoom, numbersOf, startBy, startOutcome, stepOutcome, listBy, listOutcome}
 use Rattle.model.specs.File.{recordCount, imageIn, eventAt, eventsIn, isWellFormed, foundBy, checked}
 use Rattle.model.specs.Text.{line}
 use Rattle.model.specs.Night.{linesFrom, nightOf, printedBy, printed}
+use Rattle.model.specs.declared.answer.Answer.{Answer}
 use Rattle.model.specs.declared.answer.Answer.the-variants.{Done}
-use Rattle.laws_sound.proofs.Reached.{never-refused}
-use Rattle.laws_list.specs.SaySame.{linesWith, shownIn, listCall, SaySame}
+use Rattle.model.specs.declared.file.FileCheck.the-variants.{Refused, Good}
+use Rattle.laws.specs.Calls.{Called}
+use Rattle.laws.proofs.Unchanged.{done-is, laid-front, laid-rest}
+use Rattle.laws.proofs.Reading.{step-gives}
+use Rattle.laws_sound.specs.Reached.{Accepted, StartDone, eventsOf, Roomy, none, one}
+use Rattle.laws_sound.proofs.Reached.{start-leaves, start-accepted, still-accepted, call-is-step}
+use Rattle.laws_sound.proofs.Once.{same-step}
+use Rattle.laws_list.specs.SaySame.{Replayed, CallsOf, linesOf, linesWith, shownIn, HasRoom, listCall, SaySame}
 use Rattle.laws_list.proofs.Runs.{length-run}
 use Rattle.laws_list.proofs.Admission.{list-good}
+
+-- the lines of a run are those of calls, each lent a buffer with room for any read
+run-lines : (index : ℕ) (s : State) (cs : List Called) → Accepted s → Roomy cs → linesFrom index (run early listRoom s (eventsOf cs)) ≡ linesOf index s cs
+unfolding linesFrom run linesOf stepOutcome
+run-lines index s [] a none = refl
+run-lines index s (c ∷ cs) a (one n r) =
+    let o : Out = step early listRoom s (c .event) in
+    rw (call-is-step s c a, same-step (length (c .buffer)) s (c .event) n, step-gives early s listRoom (c .event) (c .buffer))
+    (ap (λ text. line index (number (o .answer)) (o .bytes) ++ text) (run-lines (suc index) (o .state) cs (still-accepted listRoom s (c .event) a) r))
 
 -- the lines of steps are the lines with the steps' numbers and bytes
 lines-with : (index : ℕ) (os : List Out) → linesFrom index os ≡ linesWith index (numbersOf os) (shownIn os)
@@ -34,19 +51,22 @@ unfolding numbersOf
 length-numbers [] = refl
 length-numbers (o ∷ os) = ap suc (length-numbers os)
 
--- numbers that lie over the front of a buffer, and the rest of it
-front : (ns answers : List ℕ) (n : ℕ) → length ns ≡ n → take n (laidOver ns answers) ≡ ns
-unfolding laidOver
-front ns answers n e = take-at ns _ n e
+-- what is refused is not good
+not-good : (a : Answer) (n : ℕ) → Refused a ≡ Good n → ⊥
+not-good a n e = let z : _≡_ {A = ℕ} 0 1 = cc in omega arith
 
-behind : (ns answers : List ℕ) (n : ℕ) → length ns ≡ n → drop n (laidOver ns answers) ≡ drop n answers
-unfolding laidOver
-behind ns answers n e = drop-at ns _ n e ∙ ap (λ k. drop k answers) e
+module _ (file : List ℕ) (replayed : Replayed file) where
+  -- start of its image is done
+  begins : StartDone (imageIn file)
+  unfolding checked foundBy startOutcome startBy pick
+  begins = split (isWellFormed file)
+      (λ w. split (isDone (firstOf (startRefusals (imageIn file))))
+      (λ d. done-is _ d)
+      (λ d. absurd (not-good _ _ (rw (w, d, pick) at replayed))))
+      (λ w. absurd (not-good _ _ (rw (w, pick) at replayed)))
 
-module _ (file : List ℕ) (formed : isWellFormed file ≡ true) (taken : firstOf (startRefusals (imageIn file)) ≡ Done) where
-  entered : firstOf (entryRefusals (started (imageIn file))) ≡ Done
-  unfolding ending
-  entered = never-refused listRoom (imageIn file) [] taken
+  entered : Accepted (started (imageIn file))
+  entered = start-accepted (imageIn file) begins
 
   count-is : length (eventsIn file) ≡ recordCount file
   unfolding eventsIn
@@ -57,23 +77,30 @@ module _ (file : List ℕ) (formed : isWellFormed file ≡ true) (taken : firstO
   numbers-length = length-numbers _ ∙ length-run early listRoom (started (imageIn file)) (eventsIn file) ∙ count-is
 
   prints : printed file ≡ linesFrom 0 (nightOf file)
-  unfolding printed checked foundBy printedBy isDone pick
-  prints = rw (formed, taken)
+  unfolding printed printedBy
+  prints = ap (λ found. printedBy found file) replayed
 
-  module _ (answers : List ℕ) (roomy : recordCount file ≤ length answers) where
+  -- THE THEOREM for every file that is replayed, and all calls of its records: it prints what they give
+  pub file-is-calls : (cs : List Called) → CallsOf file cs → printed file ≡ linesOf 0 (startOutcome (imageIn file) .state) cs
+  unfolding nightOf
+  file-is-calls cs C =
+      rw (start-leaves (imageIn file) begins)
+      (prints ∙ ap (λ es. linesFrom 0 (run early listRoom (started (imageIn file)) es)) (sym (C .events)) ∙ run-lines 0 (started (imageIn file)) cs entered (C .roomy))
+
+  module _ (answers : List ℕ) (roomy : HasRoom file answers) where
     admitted : firstOf (listRefusals (length answers) (started (imageIn file)) (length (eventsIn file))) ≡ Done
     unfolding isDone
     admitted = list-good (length answers) (started (imageIn file)) (length (eventsIn file)) (ap isDone entered) (rw count-is (le-ltb _ _ roomy))
 
     called : listCall file answers .buffer ≡ laidOver (numbersOf (nightOf file)) answers
     unfolding listOutcome listBy nightOf isDone pick
-    called = rw admitted
+    called = rw (start-leaves (imageIn file) begins, admitted)
 
-    -- THE THEOREM: for every well-formed file whose image start takes, and every answer buffer with room for its records
+    -- THE THEOREM for every file that is replayed, and every answer buffer with room for its records
     pub say-same : SaySame file answers
     unfolding listOutcome listBy isDone pick
     say-same = record {
-      taken = rw admitted;
-      same = prints ∙ lines-with 0 (nightOf file) ∙ ap (λ ns. linesWith 0 ns (shownIn (nightOf file))) (sym (ap (take (recordCount file)) called ∙ front _ answers _ numbers-length));
-      rest = ap (drop (recordCount file)) called ∙ behind _ answers _ numbers-length;
+      taken = rw (start-leaves (imageIn file) begins, admitted);
+      same = prints ∙ lines-with 0 (nightOf file) ∙ ap (λ ns. linesWith 0 ns (shownIn (nightOf file))) (sym (ap (take (recordCount file)) called ∙ laid-front (recordCount file) _ answers numbers-length));
+      rest = ap (drop (recordCount file)) called ∙ laid-rest (recordCount file) _ answers numbers-length;
     }

@@ -1,15 +1,39 @@
--- THE PROMISE about lists and files: the answers that the list call gives for a file's records are those that the file's lines print.
+-- THE PROMISES about files: a file prints what public calls of its records give, one after the other, and the answers that the list call gives for them.
 use mathlib.Core.Path.{_≡_}
 use mathlib.Core.List.{List, [], _∷_, _++_, map}
-use Prim.Native.Nat.{ℕ, suc}
-use lib.ListN.{take, drop}
-use Rattle.model.specs.Start.{started}
+use Prim.Native.Nat.{ℕ, suc, _≤_}
+use lib.ListN.{length, take, drop}
+use Rattle.model.specs.Answers.{number}
+use Rattle.model.specs.Triggers.{State}
 use Rattle.model.specs.Step.{Out}
-use Rattle.model.specs.Outcome.{Outcome, listOutcome}
-use Rattle.model.specs.File.{recordCount, imageIn, eventsIn}
+use Rattle.model.specs.Outcome.{Outcome, startOutcome, listOutcome}
+use Rattle.model.specs.File.{recordCount, imageIn, eventsIn, checked}
 use Rattle.model.specs.Text.{line}
 use Rattle.model.specs.Night.{nightOf, printed}
 use Rattle.model.specs.declared.answer.Answer.the-variants.{Done}
+use Rattle.model.specs.declared.file.FileCheck.the-variants.{Good}
+use Rattle.laws.specs.Reading.{givenBy}
+use Rattle.laws.specs.Calls.{Called, outcomeAt}
+use Rattle.laws_sound.specs.Reached.{eventsOf, Roomy}
+
+-- a file that is replayed: the check of it finds nothing to refuse
+abbrev pub Replayed : List ℕ → Type 0
+Replayed file = checked file ≡ Good (recordCount file)
+
+-- ---- calls
+
+-- calls of a file's records, each lent a buffer with room for any read
+pub record CallsOf (file : List ℕ) (cs : List Called) : Type 0 where
+  pub events : eventsOf cs ≡ eventsIn file
+  pub roomy : Roomy cs
+
+-- the lines of calls from an index on: the answer's number, and the bytes that the call gave
+unfoldable pub linesOf : ℕ → State → List Called → List ℕ
+linesOf index s [] = []
+linesOf index s (c ∷ cs) =
+    line index (number (outcomeAt s c .answer)) (givenBy (c .event .call) (outcomeAt s c)) ++ linesOf (suc index) (outcomeAt s c .state) cs
+
+-- ---- the list call
 
 -- lines from an index on: their answers' numbers, and the bytes that each shows
 unfoldable pub linesWith : ℕ → List ℕ → List (List ℕ) → List ℕ
@@ -21,9 +45,13 @@ linesWith index (a ∷ answers) (bytes ∷ shown) = line index a bytes ++ linesW
 unfoldable pub shownIn : List Out → List (List ℕ)
 shownIn os = map (λ o. o .bytes) os
 
--- the list call on a file's records, from the file's image as it starts
+-- the answer buffer has room for every record
+abbrev pub HasRoom : List ℕ → List ℕ → Type 0
+HasRoom file answers = recordCount file ≤ length answers
+
+-- the list call on a file's records, after start of the file's image
 abbrev pub listCall : List ℕ → List ℕ → Outcome
-listCall file answers = listOutcome (started (imageIn file)) answers (eventsIn file)
+listCall file answers = listOutcome (startOutcome (imageIn file) .state) answers (eventsIn file)
 
 -- it is not refused; its answers, one for each record, are those of the printed lines; the rest of the buffer is as it was
 pub record SaySame (file answers : List ℕ) : Type 0 where

@@ -19,7 +19,7 @@ use Rattle.model.specs.declared.lane.Verdict.the-variants.{Pass, Reject}
 use Rattle.model.specs.declared.lane.Progress.{Progress}
 use Rattle.model.specs.declared.lane.Stage.{Stage}
 use Rattle.model.specs.declared.lane.Stage.the-variants.{Idle, InProgress}
-use Rattle.laws_sound.proofs.Sound.{Seen, held, stateOn, Mate, InWhole, Passes, Sound}
+use Rattle.laws_sound.specs.Sound.{Seen, held, stateOn, Mate, InWhole, Passes, Sound}
 use Rattle.laws_sound.proofs.Paths.{Together, same-together, together-same, used-app, fills-first, fills-ext, written-app, written-id, written-used}
 use Rattle.laws_sound.proofs.Test.{one-fewer}
 use Rattle.laws_sound.proofs.Stranger.{not-idle, is-rejected, Pass-of, passing-of, own, groups-apart, now-fills, home-free}

@@ -19,7 +19,7 @@ use Rattle.model.specs.declared.lane.Verdict.the-variants.{Pass}
 use Rattle.model.specs.declared.lane.Progress.{Progress}
 use Rattle.model.specs.declared.lane.Stage.{Stage}
 use Rattle.model.specs.declared.lane.Stage.the-variants.{Idle, InProgress}
-use Rattle.laws_sound.proofs.Sound.{Seen, held, Mate, Grouped, InWhole, AtRest, OnePath, Passes, Sound}
+use Rattle.laws_sound.specs.Sound.{Seen, held, Mate, Grouped, InWhole, AtRest, OnePath, Passes, Sound}
 use Rattle.laws_sound.proofs.Paths.{Together, same-together, fills-first, written-id, written-used}
 use Rattle.laws_sound.proofs.Test.{not-copied, copied-not, one-fewer, one-ext}
 use Rattle.laws_sound.proofs.Stranger.{not-rejected, in-group, groups-apart, stranger, home-free}

@@ -1,5 +1,4 @@
 -- Soundness as propositions, the same as the test; kept by every event; so never refused from start on.
-pub mod Sound
 pub mod Paths
 pub mod Test
 pub mod Stranger
@@ -14,3 +13,4 @@ pub mod PathEvents
 pub mod Steps
 pub mod Starting
 pub mod Reached
+pub mod Once

@@ -25,7 +25,7 @@ use Rattle.model.specs.declared.lane.Stage.{Stage}
 use Rattle.model.specs.declared.lane.Stage.the-variants.{InProgress}
 use Rattle.model.specs.declared.lane.Working.{Working}
 use Rattle.laws_frames.proofs.Back.{Fits}
-use Rattle.laws_sound.proofs.Sound.{Seen, held, Mate, Grouped, OnePath, Passes, Sound}
+use Rattle.laws_sound.specs.Sound.{Seen, held, Mate, Grouped, OnePath, Passes, Sound}
 use Rattle.laws_sound.proofs.Paths.{same-together, same-sym, same-trans, path-has}
 use Rattle.laws_sound.proofs.Test.{copied-not, one-fewer, one-none}
 use Rattle.laws_sound.proofs.Stranger.{in-progress, idle-passing}

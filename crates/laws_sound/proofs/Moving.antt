@@ -10,7 +10,7 @@ use Rattle.model.specs.View.{of, stateIn, isUsed, samePath}
 use Rattle.model.specs.declared.lane.Verdict.the-variants.{Pass}
 use Rattle.model.specs.declared.lane.Progress.{Progress}
 use Rattle.model.specs.declared.lane.Stage.the-variants.{InProgress}
-use Rattle.laws_sound.proofs.Sound.{Seen, stateOn, Mate, InWhole, AtRest, Passes, Sound}
+use Rattle.laws_sound.specs.Sound.{Seen, stateOn, Mate, InWhole, AtRest, Passes, Sound}
 use Rattle.laws_sound.proofs.Paths.{same-together, same-sym, same-trans}
 use Rattle.laws_sound.proofs.Stranger.{stranger}
 

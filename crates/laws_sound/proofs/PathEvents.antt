@@ -28,7 +28,7 @@ use Rattle.laws_frames.proofs.Outside.{below-range, above-range}
 use Rattle.laws_frames.proofs.Registers.{settings-same, applications-same, status-same, state-same, pending-same}
 use Rattle.laws_frames.proofs.Changes.{SameOffPath, off-advertised, entered-off, state-outside, pending-outside, flags-outside}
 use Rattle.laws_frames.proofs.Back.{state-in, state-out, pending-out}
-use Rattle.laws_sound.proofs.Sound.{Seen, seenOf, InWhole}
+use Rattle.laws_sound.specs.Sound.{Seen, seenOf, InWhole}
 use Rattle.laws_sound.proofs.Paths.{path-has}
 use Rattle.laws_sound.proofs.Stranger.{idle-passing}
 use Rattle.laws_sound.proofs.Closing.{quiet-sound}

@@ -21,7 +21,7 @@ use Rattle.model.specs.declared.lane.Working.{Working}
 use Rattle.laws_frames.proofs.Outside.{Beside, SameOutside, set-outside}
 use Rattle.laws_frames.proofs.Registers.{Advertised, settings-same, states-same, applications-same, status-same, pending-same}
 use Rattle.laws_frames.proofs.Changes.{settled-outside, sampled-outside, flags-outside, selected-outside, cleared-byte, cleared-length}
-use Rattle.laws_sound.proofs.Sound.{seenOf, Sound}
+use Rattle.laws_sound.specs.Sound.{seenOf, Sound}
 use Rattle.laws_sound.proofs.Closing.{quiet-sound}
 
 -- what holds of every state reached: 768 bytes, lower byte 2 as it was, sound

@@ -1,32 +1,37 @@
--- THE PROMISES about soundness: the test is the five conditions; start is sound; every event keeps it; so a state reached from start is never answered 1, 2
--- or 3, and asking for them once for a list of events is asking at every one.
-use mathlib.Core.Path.{_≡_, refl, sym, ap, _∙_}
+-- THE PROMISES about soundness: the test is the five conditions; start is sound; every event keeps it; so no call after a start that is done is ever
+-- answered 1, 2 or 3.
+use mathlib.Core.Path.{_≡_, refl, ap}
 use mathlib.Core.Bool.{true, false}
-use mathlib.Core.List.{List, [], _∷_, _++_, map}
+use mathlib.Core.List.{List, [], _∷_}
 use Prim.Native.Nat.{ℕ}
+use native.Mathlib.Omega.{arith}
 use lib.Dec.{eqb}
 use lib.ListN.{length, getD}
 use borrow.Author.Tests.{eqb-true, not-false}
 use Rattle.bits.specs.Choice.{pick}
 use Rattle.bits.specs.Number.{field}
 use Rattle.bits.specs.Place.{get}
-use Rattle.bits.proofs.Tests.{split, pick-true, pick-false}
+use Rattle.bits.proofs.Tests.{clash, pick-true}
 use Rattle.model.specs.Map.{Image}
-use Rattle.model.specs.Answers.{number, isDone}
+use Rattle.model.specs.Answers.{isDone}
 use Rattle.model.specs.Triggers.{State}
 use Rattle.model.specs.Work.{early}
 use Rattle.model.specs.Start.{started}
 use Rattle.model.specs.Sound.{isSound}
-use Rattle.model.specs.Refusals.{Refusal, firstOf, isFlat, wrongLength, imageRefusals, startRefusals, entryRefusals, listRefusals}
-use Rattle.model.specs.Step.{Out, step, run, ending}
-use Rattle.model.specs.Outcome.{Outcome, laidOver, stepOutcome, callBy, callOutcome, listRoom, numbersOf, listBy, listOutcome}
+use Rattle.model.specs.Refusals.{firstOf, isFlat, wrongLength, imageRefusals, startRefusals, entryRefusals}
+use Rattle.model.specs.Step.{step}
+use Rattle.model.specs.Outcome.{startBy, startOutcome, stepOutcome, callBy, callOutcome, listOutcome}
 use Rattle.model.specs.declared.answer.Answer.{Answer}
 use Rattle.model.specs.declared.answer.Answer.the-variants.{Done}
 use Rattle.model.specs.declared.event.Event.{Event}
-use Rattle.laws_sound.proofs.Sound.{seenOf, Sound}
+use Rattle.laws.specs.Asked.{Asked, call, list, outcomeOf, givenState, holds, isUnsound}
+use Rattle.laws.specs.Calls.{Called, outcomeAt, stateAfter}
+use Rattle.laws.proofs.Answered.{refused-exactly}
+use Rattle.laws_sound.specs.Sound.{seenOf, Sound}
+use Rattle.laws_sound.specs.Reached.{Fit, Accepted, Admitted, StartDone, reachedBy, stepAt}
 use Rattle.laws_sound.proofs.Test.{test-sound, sound-test}
 use Rattle.laws_sound.proofs.Quiet.{Well}
-use Rattle.laws_sound.proofs.Steps.{not-refused, step-well, ending-well}
+use Rattle.laws_sound.proofs.Steps.{not-refused, step-well}
 use Rattle.laws_sound.proofs.Starting.{start-well}
 
 -- ---- 1: the computed test is the five conditions
@@ -38,28 +43,27 @@ pub start-sound : (x : Image) → isSound (started x) ≡ true
 start-sound x = sound-test (started x) (start-well x .sound)
 
 -- ---- 3: every event, refused or done, leaves a sound state sound
-pub step-sound : (room : ℕ) (s : State) (e : Event) → length (s .image) ≡ 768 → isSound s ≡ true
-    → (isSound (step early room s e .state) ≡ true) × (length (step early room s e .state .image) ≡ 768)
-step-sound room s e n t =
+pub step-sound : (room : ℕ) (s : State) (e : Event) → Fit s → Fit (step early room s e .state)
+step-sound room s e F =
     let W : Well (getD (s .image) 2 0) (step early room s e .state) =
-    step-well (getD (s .image) 2 0) room s e (record { size = n; low = refl; sound = test-sound s t }) in
-    (sound-test _ (W .sound), W .size)
+    step-well (getD (s .image) 2 0) room s e (record { size = F .size; low = refl; sound = test-sound s (F .sound) }) in
+    record { size = W .size; sound = sound-test _ (W .sound) }
 
 -- ---- 4: no state reached from start is refused
 
 -- what the refusals 1, 2 and 3 ask
-record Accepted (s : State) : Type 0 where
+record Entered (s : State) : Type 0 where
   pub well : Well (getD (s .image) 2 0) s
   pub paged : eqb (field (getD (s .image) 2 0) 7 1) 1 ≡ false
 
-done-is : {a : Answer} → a ≡ Done → isDone a ≡ true
+pub is-done : {a : Answer} → a ≡ Done → isDone a ≡ true
 unfolding isDone
-done-is e = ap isDone e
+is-done e = ap isDone e
 
-accepts : (s : State) → firstOf (entryRefusals s) ≡ Done → Accepted s
+enters : (s : State) → Accepted s → Entered s
 unfolding entryRefusals imageRefusals wrongLength isFlat get isDone
-accepts s e =
-    let r₁ = not-refused _ _ refl (done-is e) in
+enters s e =
+    let r₁ = not-refused _ _ refl (is-done e) in
     let r₂ = not-refused _ _ refl (r₁ .1) in
     let r₃ = not-refused _ _ refl (r₂ .1) in
     record {
@@ -67,84 +71,72 @@ accepts s e =
       paged = r₂ .0;
     }
 
-accepted : (two : ℕ) (s : State) → Well two s → eqb (field two 7 1) 1 ≡ false → firstOf (entryRefusals s) ≡ Done
+accepted : (two : ℕ) (s : State) → Well two s → eqb (field two 7 1) 1 ≡ false → Accepted s
 unfolding entryRefusals imageRefusals wrongLength isFlat get firstOf pick
 accepted two s W f = rw (W .low, f, W .size, sound-test s (W .sound))
 
-started-accepted : (x : Image) → firstOf (startRefusals x) ≡ Done → eqb (field (getD x 2 0) 7 1) 1 ≡ false
-unfolding startRefusals imageRefusals isFlat get isDone
-started-accepted x e = not-refused _ _ refl (not-refused _ _ refl (done-is e) .1) .0
+-- a start that is done leaves what start makes of the image ..
+pub start-leaves : (x : Image) → StartDone x → startOutcome x .state ≡ started x
+unfolding startOutcome startBy
+start-leaves x d = pick-true _ _ (is-done d)
 
-pub never-refused : (room : ℕ) (x : Image) (es : List Event) → firstOf (startRefusals x) ≡ Done
-    → firstOf (entryRefusals (ending early room (started x) es)) ≡ Done
-never-refused room x es e =
-    accepted (getD x 2 0) _ (ending-well (getD x 2 0) room (started x) es (start-well x)) (started-accepted x e)
+paged-start : (x : Image) → StartDone x → eqb (field (getD x 2 0) 7 1) 1 ≡ false
+unfolding startOutcome startBy startRefusals imageRefusals isFlat get isDone
+paged-start x d = not-refused _ _ refl (not-refused _ _ refl (is-done d) .1) .0
 
--- nor is a state that an accepted one leads to
-pub still-accepted : (room : ℕ) (s : State) (e : Event) → firstOf (entryRefusals s) ≡ Done
-    → firstOf (entryRefusals (step early room s e .state)) ≡ Done
-still-accepted room s e a = let A : Accepted s = accepts s a in
-    accepted (getD (s .image) 2 0) _ (step-well (getD (s .image) 2 0) room s e (A .well)) (A .paged)
+-- .. and that is accepted
+pub start-accepted : (x : Image) → StartDone x → Accepted (started x)
+start-accepted x d = accepted (getD x 2 0) (started x) (start-well x) (paged-start x d)
 
--- ---- 5: asking once for a list is asking at every event
+-- so is a state that an accepted one leads to
+pub still-accepted : (room : ℕ) (s : State) (e : Event) → Accepted s → Accepted (step early room s e .state)
+still-accepted room s e a = let E : Entered s = enters s a in
+    accepted (getD (s .image) 2 0) _ (step-well (getD (s .image) 2 0) room s e (E .well)) (E .paged)
 
--- the outcomes of public calls one after the other, each of which asks 1 to 3 and is lent the buffer
-unfoldable pub calls : State → List ℕ → List Event → List Outcome
-calls s buffer [] = []
-calls s buffer (e ∷ es) = callOutcome s buffer e ∷ calls (callOutcome s buffer e .state) buffer es
-
--- the state that they end in
-unfoldable pub afterCalls : State → List ℕ → List Event → State
-afterCalls s buffer [] = s
-afterCalls s buffer (e ∷ es) = afterCalls (callOutcome s buffer e .state) buffer es
-
-call-is-step : (s : State) (buffer : List ℕ) (e : Event) → firstOf (entryRefusals s) ≡ Done
-    → callOutcome s buffer e ≡ stepOutcome (step early (length buffer) s e) buffer
+-- a call on an accepted state is a step
+pub call-is-step : (s : State) (c : Called) → Accepted s → outcomeAt s c ≡ stepAt s c
 unfolding callOutcome callBy
-call-is-step s buffer e a = pick-true _ _ (done-is a)
+call-is-step s c a = pick-true _ _ (is-done a)
 
--- calls from an accepted state are the steps of a run that asks no more
-pub asked-once : (s : State) (buffer : List ℕ) (es : List Event) → firstOf (entryRefusals s) ≡ Done
-    → calls s buffer es ≡ map (λ o. stepOutcome o buffer) (run early (length buffer) s es)
-unfolding calls run stepOutcome
-asked-once s buffer [] a = refl
-asked-once s buffer (e ∷ es) a =
-    rw (call-is-step s buffer e a)
-    (ap (λ os. stepOutcome (step early (length buffer) s e) buffer ∷ os) (asked-once (step early (length buffer) s e .state) buffer es (still-accepted (length buffer) s e a)))
+pub call-accepted : (s : State) (c : Called) → Accepted s → Accepted (outcomeAt s c .state)
+unfolding stepOutcome
+call-accepted s c a = rw (call-is-step s c a) (still-accepted (length (c .buffer)) s (c .event) a)
 
-pub asked-once-state : (s : State) (buffer : List ℕ) (es : List Event) → firstOf (entryRefusals s) ≡ Done
-    → afterCalls s buffer es ≡ ending early (length buffer) s es
-unfolding afterCalls ending stepOutcome
-asked-once-state s buffer [] a = refl
-asked-once-state s buffer (e ∷ es) a =
-    rw (call-is-step s buffer e a)
-    (asked-once-state (step early (length buffer) s e .state) buffer es (still-accepted (length buffer) s e a))
+pub calls-accepted : (s : State) (cs : List Called) → Accepted s → Accepted (stateAfter s cs)
+unfolding stateAfter
+calls-accepted s [] a = a
+calls-accepted s (c ∷ cs) a = calls-accepted (outcomeAt s c .state) cs (call-accepted s c a)
 
--- the answers of calls, by number
-abbrev pub answersOf : List Outcome → List ℕ
-answersOf os = map (λ o. number (o .answer)) os
+-- after a start that is done and any calls, each with any event and any buffer
+pub never-refused : (x : Image) → StartDone x → (cs : List Called) → Accepted (reachedBy x cs)
+never-refused x d cs = calls-accepted (startOutcome x .state) cs (rw (start-leaves x d) (start-accepted x d))
 
-same-answers : (buffer : List ℕ) (os : List Out) → answersOf (map (λ o. stepOutcome o buffer) os) ≡ numbersOf os
-unfolding numbersOf stepOutcome
-same-answers buffer [] = refl
-same-answers buffer (o ∷ os) = ap (λ ns. number (o .answer) ∷ ns) (same-answers buffer os)
+-- what is asked of an accepted state is answered none of 1, 2 and 3
+accepted-admitted : (q : Asked) → Accepted (givenState q) → isUnsound q ≡ false → Admitted (outcomeOf q .answer)
+unfolding holds entryRefusals imageRefusals isDone
+accepted-admitted q a u =
+    let r₁ = not-refused _ _ refl (is-done a) in
+    let r₂ = not-refused _ _ refl (r₁ .1) in
+    record {
+      sized = λ e. clash (refused-exactly q 0 (omega arith) .0 e .holds) (r₁ .0);
+      paged = λ e. clash (refused-exactly q 1 (omega arith) .0 e .holds) (r₂ .0);
+      sound = λ e. clash (refused-exactly q 3 (omega arith) .0 e .holds) u;
+    }
 
--- a longer list of refusals refuses more
-fewer-refusals : (rs ts : List Refusal) → firstOf (rs ++ ts) ≡ Done → firstOf rs ≡ Done
-unfolding firstOf
-fewer-refusals [] ts e = refl
-fewer-refusals (r ∷ rs) ts e = split (r .when)
-    (λ w. pick-true _ _ w ∙ sym (pick-true _ _ w) ∙ e)
-    (λ w. pick-false _ _ w ∙ fewer-refusals rs ts (sym (pick-false _ _ w) ∙ e))
+accepted-sound : (s : State) → Accepted s → isSound s ≡ true
+accepted-sound s a = sound-test s (enters s a .well .sound)
 
--- what a list of events that is not refused leaves is what calls, each lent a buffer with room for any read, leave one after the other
-pub list-is-calls : (s : State) (answers buffer : List ℕ) (es : List Event) → length buffer ≡ listRoom
-    → firstOf (listRefusals (length answers) s (length es)) ≡ Done
-    → (listOutcome s answers es .state ≡ afterCalls s buffer es) × (listOutcome s answers es .buffer ≡ laidOver (answersOf (calls s buffer es)) answers)
-unfolding listOutcome listBy listRefusals
-list-is-calls s answers buffer es n e =
-    let a : firstOf (entryRefusals s) ≡ Done = fewer-refusals (entryRefusals s) _ e in
-    rw (pick-true _ _ (done-is e)) (
-      sym (asked-once-state s buffer es a ∙ ap (λ room. ending early room s es) n),
-      ap (λ ns. laidOver ns answers) (sym (ap answersOf (asked-once s buffer es a) ∙ same-answers buffer _ ∙ ap (λ room. numbersOf (run early room s es)) n)),
-    )
+module _ (x : Image) (d : StartDone x) (cs : List Called) where
+  -- no further call is answered 1, 2 or 3 ..
+  pub never-answered : (c : Called) → Admitted (outcomeAt (reachedBy x cs) c .answer)
+  unfolding outcomeOf givenState isUnsound
+  never-answered c =
+      let a : Accepted (reachedBy x cs) = never-refused x d cs in
+      accepted-admitted (call (reachedBy x cs) (c .buffer) (c .event)) a (rw (accepted-sound (reachedBy x cs) a))
+
+  -- .. nor is a list of events
+  pub never-answered-list : (answers : List ℕ) (es : List Event) → Admitted (listOutcome (reachedBy x cs) answers es .answer)
+  unfolding outcomeOf givenState isUnsound
+  never-answered-list answers es =
+      let a : Accepted (reachedBy x cs) = never-refused x d cs in
+      accepted-admitted (list (reachedBy x cs) answers es) a (rw (accepted-sound (reachedBy x cs) a))

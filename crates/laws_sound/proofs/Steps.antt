@@ -20,7 +20,7 @@ use Rattle.model.specs.Triggers.{State, withStatus, isMarked, stageAfter, marke
 use Rattle.model.specs.Work.{early}
 use Rattle.model.specs.Access.{stored, byteWritten, bytesWritten}
 use Rattle.model.specs.Refusals.{Refusal, firstOf, noSuchLane, isBusy, isUnused, eventRefusals}
-use Rattle.model.specs.Step.{readAt, carried, done, refused, answered, step, ending}
+use Rattle.model.specs.Step.{readAt, carried, done, refused, answered, step}
 use Rattle.model.specs.declared.lane.Trigger.{Trigger}
 use Rattle.model.specs.declared.lane.Trigger.the-variants.{DpInit, Immediate}
 use Rattle.model.specs.declared.event.Call.{Call}
@@ -31,7 +31,7 @@ use Rattle.laws_frames.proofs.Registers.{settings-same, states-same, advertised
 use Rattle.laws_frames.proofs.Changes.{status-outside}
 use Rattle.laws_frames.proofs.Back.{status-in, status-out, read-fits}
 use Rattle.laws_frames.proofs.Stages.{stage-in}
-use Rattle.laws_sound.proofs.Sound.{Seen, seenOf}
+use Rattle.laws_sound.specs.Sound.{Seen, seenOf}
 use Rattle.laws_sound.proofs.Closing.{quiet-sound}
 use Rattle.laws_sound.proofs.Marking.{marking}
 use Rattle.laws_sound.proofs.Quiet.{Well, quiet-well, set-quiet, selected-quiet, settled-quiet, sampled-quiet, condition-quiet, cleared-quiet}
@@ -144,15 +144,10 @@ carried-well two room s bytes (Condition flag mask) W e =
 carried-well two room s bytes (Sample l p) W e =
     quiet-well two (s .image) _ (s .working) (sampled-quiet l p (s .image) (a-lane l (not-refused _ _ refl e .0))) W
 
--- ---- every event, refused or done; every run
+-- ---- every event, refused or done
 
 pub step-well : (two room : ℕ) (s : State) (e : Event) → Well two s → Well two (step early room s e .state)
 unfolding step answered done refused
 step-well two room s e W = split (isDone (firstOf (eventRefusals room s (e .call))))
     (λ d. rw (pick-true _ _ d) (quiet-well two _ _ _ (settled-quiet _) (carried-well two room s (e .bytes) (e .call) W d)))
     (λ d. rw (pick-false _ _ d) W)
-
-pub ending-well : (two room : ℕ) (s : State) (es : List Event) → Well two s → Well two (ending early room s es)
-unfolding ending
-ending-well two room s [] W = W
-ending-well two room s (e ∷ es) W = ending-well two room _ es (step-well two room s e W)

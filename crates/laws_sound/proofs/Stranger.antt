@@ -15,7 +15,7 @@ use Rattle.model.specs.declared.lane.Verdict.the-variants.{Pass, Reject}
 use Rattle.model.specs.declared.lane.Progress.{Progress}
 use Rattle.model.specs.declared.lane.Stage.{Stage}
 use Rattle.model.specs.declared.lane.Stage.the-variants.{Idle, InProgress}
-use Rattle.laws_sound.proofs.Sound.{Seen, held, Mate, InWhole, Passes, Sound}
+use Rattle.laws_sound.specs.Sound.{Seen, held, Mate, InWhole, Passes, Sound}
 use Rattle.laws_sound.proofs.Paths.{same-together, together-same, path-has, fills-first, fills-same, written-app, written-id, written-used}
 use Rattle.laws_sound.proofs.Test.{not-copied}
 

@@ -32,7 +32,7 @@ use Rattle.model.specs.declared.lane.Working.{Working}
 use Rattle.model.specs.declared.application.Lookup.{Lookup}
 use Rattle.laws_frames.proofs.Registers.{settings-path}
 use Rattle.laws_sound.proofs.Paths.{same-together, used-app}
-use Rattle.laws_sound.proofs.Sound.{Seen, seenOf, held, stateOn, Mate, Grouped, InWhole, AtRest, OnePath, Passes, Sound}
+use Rattle.laws_sound.specs.Sound.{Seen, seenOf, held, stateOn, Mate, Grouped, InWhole, AtRest, OnePath, Passes, Sound}
 
 -- ---- small tests
 

@@ -30,7 +30,7 @@ use Rattle.laws_frames.proofs.Registers.{settings-same, states-same, advertised
 use Rattle.laws_frames.proofs.Changes.{status-outside, pending-outside, copy-outside}
 use Rattle.laws_frames.proofs.Back.{Fits, status-in, status-out, pending-in, pending-out, active-in, active-out, written-fits}
 use Rattle.laws_frames.proofs.Stages.{freed-in, freed-out, advanced-in, advanced-out}
-use Rattle.laws_sound.proofs.Sound.{Seen, seenOf, held, stateOn, Mate, InWhole}
+use Rattle.laws_sound.specs.Sound.{Seen, seenOf, held, stateOn, Mate, InWhole}
 use Rattle.laws_sound.proofs.Test.{releases, all-unused}
 use Rattle.laws_sound.proofs.Closing.{quiet-sound, closing, reject-whole, reject-rest, pass-whole, pass-rest}
 use Rattle.laws_sound.proofs.Copying.{copying}

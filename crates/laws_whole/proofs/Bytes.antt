@@ -22,7 +22,7 @@ use Rattle.model.specs.Outcome.{state}
 use Rattle.model.specs.declared.event.Call.the-variants.{Write}
 use Rattle.model.specs.declared.lane.Trigger.the-variants.{DpInit, Immediate}
 use Rattle.model.specs.declared.lane.Working.{Working}
-use Rattle.laws_sound.proofs.Sound.{seenOf, Sound}
+use Rattle.laws_sound.specs.Sound.{seenOf, Sound}
 use Rattle.laws_whole.proofs.Agree.{alike-set}
 use Rattle.laws_whole.proofs.Pairs.{passed, veiled, Pair, Paired}
 use Rattle.laws_whole.proofs.Kept.{changed, keeps-page, keeps-set}

@@ -31,7 +31,7 @@ use Rattle.model.specs.declared.answer.Answer.the-variants.{BadAccess, Busy, No
 use Rattle.model.specs.declared.event.Call.{Call}
 use Rattle.model.specs.declared.event.Call.the-variants.{Write, Read, Work, Hardware, Condition, Sample}
 use Rattle.model.specs.declared.lane.Working.{Working}
-use Rattle.laws_sound.proofs.Sound.{seenOf, Sound}
+use Rattle.laws_sound.specs.Sound.{seenOf, Sound}
 use Rattle.laws_sound.proofs.Steps.{not-refused}
 use Rattle.laws_whole.specs.Whole.{hidden, Alike, hiddenRead}
 use Rattle.laws_whole.proofs.Agree.{of-none, none-of}

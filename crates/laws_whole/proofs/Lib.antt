@@ -13,4 +13,5 @@ pub mod Working
 pub mod Bytes
 pub mod Events
 pub mod Runs
+pub mod Buffers
 pub mod Theorem

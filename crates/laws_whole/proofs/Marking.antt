@@ -19,7 +19,7 @@ use Rattle.model.specs.declared.lane.Stage.the-variants.{InProgress}
 use Rattle.model.specs.declared.lane.Working.{Working}
 use Rattle.laws_frames.proofs.Registers.{advertised-between, settings-same, applications-same}
 use Rattle.laws_frames.proofs.Stages.{stage-in}
-use Rattle.laws_sound.proofs.Sound.{seenOf, Sound}
+use Rattle.laws_sound.specs.Sound.{seenOf, Sound}
 use Rattle.laws_sound.proofs.Stranger.{idle-passing, now-fills}
 use Rattle.laws_whole.proofs.Agree.{alike-lanes}
 use Rattle.laws_whole.proofs.Sees.{activeOf, swap, view-same}

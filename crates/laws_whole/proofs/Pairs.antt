@@ -19,7 +19,7 @@ use Rattle.model.specs.declared.lane.Stage.the-variants.{InProgress}
 use Rattle.model.specs.declared.lane.Working.{Working}
 use Rattle.model.specs.declared.application.Lookup.{Lookup}
 use Rattle.laws_frames.proofs.Registers.{settings-at-same}
-use Rattle.laws_sound.proofs.Sound.{seenOf, Sound}
+use Rattle.laws_sound.specs.Sound.{seenOf, Sound}
 use Rattle.laws_sound.proofs.Paths.{same-together, fills-first}
 use Rattle.laws_sound.proofs.Stranger.{Pass-of, passing-of, idle-passing, stranger, home-free}
 use Rattle.laws_whole.specs.Whole.{activeBitOf, Alike}

@@ -1,6 +1,6 @@
 -- Both runs, step by step from a start. Of the run it is used that a start is sound and that every step keeps it so.
-use mathlib.Core.Path.{_≡_, refl, sym, ap₂, subst}
-use mathlib.Core.List.{List, [], _∷_, map}
+use mathlib.Core.Path.{_≡_, refl, sym, subst}
+use mathlib.Core.List.{[]}
 use Prim.Native.Nat.{ℕ}
 use lib.ListN.{getD}
 use Rattle.bits.specs.Choice.{pick}
@@ -13,7 +13,7 @@ use Rattle.model.specs.Triggers.{State}
 use Rattle.model.specs.Work.{early, late}
 use Rattle.model.specs.Start.{started}
 use Rattle.model.specs.Refusals.{firstOf, eventRefusals}
-use Rattle.model.specs.Step.{Out, done, refused, answered, step, run, ending}
+use Rattle.model.specs.Step.{Out, done, refused, answered, step}
 use Rattle.model.specs.Outcome.{state}
 use Rattle.model.specs.declared.event.Call.{Call}
 use Rattle.model.specs.declared.event.Event.{Event}
@@ -79,22 +79,3 @@ next-twin room e s a T = record { two = T .two; well = step-well (T .two) room s
 pub reached-twin : {s a : State} → Reached s a → Twin s a
 reached-twin (begun x) = record { two = getD x 2 0; well = start-well x; paired = start-pair x }
 reached-twin (then {s} {a} r room e) = next-twin room e s a (reached-twin r)
-
--- what is the same of every step is the same of the whole run
-along : {B : Type 0} (f : Out → B) → ((s : State) (c : Call) (o p : Out) → Both s c o p → f o ≡ f p) → (room : ℕ) (es : List Event) (s a : State) → Twin s a
-    → map f (run early room s es) ≡ map f (run late room a es)
-unfolding run
-along f h room [] s a T = refl
-along f h room (e ∷ es) s a T = ap₂ _∷_ (h s (e .call) _ _ (both-step room e s a T)) (along f h room es _ _ (next-twin room e s a T))
-
-pub run-answers : (room : ℕ) (es : List Event) (s a : State) → Twin s a → map (λ (o : Out). o .answer) (run early room s es) ≡ map (λ (o : Out). o .answer) (run late room a es)
-run-answers = along (λ o. o .answer) (λ s c o p B. B .answer)
-
-pub run-masks : (room : ℕ) (es : List Event) (s a : State) → Twin s a → map (λ (o : Out). o .mask) (run early room s es) ≡ map (λ (o : Out). o .mask) (run late room a es)
-run-masks = along (λ o. o .mask) (λ s c o p B. B .mask)
-
--- a list of events reaches such states
-pub ending-reached : (room : ℕ) (es : List Event) (s a : State) → Reached s a → Reached (ending early room s es) (ending late room a es)
-unfolding ending
-ending-reached room [] s a r = r
-ending-reached room (e ∷ es) s a r = ending-reached room es _ _ (then r room e)

@@ -1,22 +1,43 @@
--- DEMAND 3: every run is the run in which each accepted group is carried out whole at its closing step. specs/Whole says what is the same.
-use mathlib.Core.Path.{_≡_}
+-- DEMAND 3: public calls after a start are the run in which each accepted group is carried out whole at its closing step. specs/Whole says what is the same.
+use mathlib.Core.Path.{_≡_, refl, ap₂}
 use mathlib.Core.Bool.{false}
-use mathlib.Core.List.{List, map}
+use mathlib.Core.List.{List, [], _∷_, map}
 use mathlib.Core.Logic.{_⊎_, inl, inr}
 use Prim.Native.Nat.{ℕ, _+_, _≤_, _<_}
-use lib.ListN.{getD}
-use Rattle.model.specs.Map.{Image, activeSet}
+use lib.ListN.{length, getD}
+use Rattle.model.specs.Map.{Image, laneCount, activeSet}
 use Rattle.model.specs.Lanes.{stageAt, isInProgress}
 use Rattle.model.specs.View.{settingsAt}
 use Rattle.model.specs.Triggers.{State}
 use Rattle.model.specs.Work.{early, late}
-use Rattle.model.specs.Start.{started}
-use Rattle.model.specs.Step.{Out, step, run, ending}
+use Rattle.model.specs.Step.{step}
+use Rattle.model.specs.Outcome.{Outcome, startOutcome, stepOutcome}
 use Rattle.model.specs.declared.event.Event.{Event}
+use Rattle.laws.specs.Reading.{readCount}
+use Rattle.laws.specs.Calls.{Called, outcomeAt, outcomes, stateAfter}
+use Rattle.laws.proofs.Reading.{step-reads}
 use Rattle.laws_frames.proofs.Registers.{setLength, settings-at-same}
-use Rattle.laws_whole.specs.Whole.{hidden, SameState, SameStep, Reached, begun}
+use Rattle.laws_sound.specs.Reached.{Accepted, StartDone, reachedBy, along, through}
+use Rattle.laws_sound.proofs.Reached.{start-leaves, start-accepted, still-accepted, call-is-step}
+use Rattle.laws_whole.specs.Whole.{wholeAt, comparedBy, hidden, SameState, SameStep, SameOutcome, Reached, begun, then}
 use Rattle.laws_whole.proofs.Agree.{alike-below, alike-above, alike-setting}
-use Rattle.laws_whole.proofs.Runs.{same-state, both-step, reached-twin, run-answers, run-masks, ending-reached}
+use Rattle.laws_whole.proofs.Runs.{same-state, both-step, reached-twin}
+use Rattle.laws_whole.proofs.Buffers.{same-buffer, untouched-buffer}
+
+-- ---- what two such states have in common
+
+-- every byte outside 11h:206-234 is the same, whatever is in progress ..
+pub whole-registers : {s a : State} → SameState s a → (i : ℕ) → (i < activeSet) ⊎ (activeSet + setLength ≤ i) → getD (s .image) i 0 ≡ getD (a .image) i 0
+unfolding hidden
+whole-registers S i (inl b) = alike-below _ _ _ (S .image) i b
+whole-registers S i (inr b) = alike-above _ _ _ (S .image) i b
+
+-- .. and so are the active settings of every lane that is not in progress
+pub whole-settings : {s a : State} → SameState s a → (l : ℕ) → l < laneCount → isInProgress (stageAt (s .working) l) ≡ false
+    → settingsAt activeSet (s .image) l ≡ settingsAt activeSet (a .image) l
+unfolding hidden
+whole-settings {s} {a} S l b f = settings-at-same activeSet (a .image) (s .image) l (λ k h.
+    alike-setting (λ m. isInProgress (stageAt (s .working) m)) (s .image) (a .image) (S .image) k l h b f)
 
 -- ---- states that the two runs reach from one start by the same events
 
@@ -30,35 +51,63 @@ whole-steps {s} {a} r room e =
     let b = both-step room e s a (reached-twin r) in
     record { answer = b .answer; mask = b .mask; bytes = b .bytes; state = same-state _ _ (b .paired) }
 
--- every byte outside 11h:206-234 is the same, whatever is in progress ..
-pub whole-registers : {s a : State} → Reached s a → (i : ℕ) → (i < activeSet) ⊎ (activeSet + setLength ≤ i) → getD (s .image) i 0 ≡ getD (a .image) i 0
-unfolding hidden
-whole-registers r i (inl b) = alike-below _ _ _ (whole-states r .image) i b
-whole-registers r i (inr b) = alike-above _ _ _ (whole-states r .image) i b
+-- ---- calls beside the comparison run
 
--- .. and so are the active settings of every lane that is not in progress
-pub whole-settings : {s a : State} → Reached s a → (l : ℕ) → l < 8 → isInProgress (stageAt (s .working) l) ≡ false
-    → settingsAt activeSet (s .image) l ≡ settingsAt activeSet (a .image) l
-unfolding hidden
-whole-settings {s} {a} r l b f = settings-at-same activeSet (a .image) (s .image) l (λ k h.
-    alike-setting (λ m. isInProgress (stageAt (s .working) m)) (s .image) (a .image) (whole-states r .image) k l h b f)
+-- a state that calls reach, which is never refused, and its pair in the comparison run
+record Beside (s a : State) : Type 0 where
+  pub accepted : Accepted s
+  pub reached : Reached s a
 
--- ---- DEMAND 3: over any list of events from a fresh start
+beside-start : (x : Image) → StartDone x → Beside (startOutcome x .state) (startOutcome x .state)
+beside-start x d = rw (start-leaves x d) (record { accepted = start-accepted x d; reached = begun x })
 
--- the states after them
-pub demand-3 : (x : Image) (room : ℕ) (es : List Event) → SameState (ending early room (started x) es) (ending late room (started x) es)
-demand-3 x room es = whole-states (ending-reached room es (started x) (started x) (begun x))
+module _ (s a : State) (c : Called) (B : Beside s a) where
+  beside-next : Beside (outcomeAt s c .state) (wholeAt a c .state)
+  unfolding stepOutcome
+  beside-next = rw (call-is-step s c (B .accepted)) (record {
+    accepted = still-accepted (length (c .buffer)) s (c .event) (B .accepted);
+    reached = then (B .reached) (length (c .buffer)) (c .event);
+  })
 
--- the event after them
-pub demand-3-next : (x : Image) (room : ℕ) (es : List Event) (e : Event)
-    → SameStep (ending early room (started x) es) (e .call) (step early room (ending early room (started x) es) e) (step late room (ending late room (started x) es) e)
-demand-3-next x room es e = whole-steps (ending-reached room es (started x) (started x) (begun x)) room e
+  beside-outcome : SameOutcome s c (outcomeAt s c) (wholeAt a c)
+  unfolding stepOutcome
+  beside-outcome =
+      let S = whole-steps (B .reached) (length (c .buffer)) (c .event) in
+      rw (call-is-step s c (B .accepted)) (record {
+        answer = S .answer;
+        mask = S .mask;
+        buffer = elim (step-reads early s (length (c .buffer)) (c .event)) [
+          | inl r ↦ same-buffer _ _ _ (c .buffer) (S .bytes) (readCount (c .event .call)) (r .1)
+          | inr r ↦ untouched-buffer _ _ _ (c .buffer) (S .bytes) (readCount (c .event .call)) (r .1)
+        ];
+        state = S .state;
+      })
 
--- all answers, and all commission masks
-pub demand-3-answers : (x : Image) (room : ℕ) (es : List Event)
-    → map (λ (o : Out). o .answer) (run early room (started x) es) ≡ map (λ (o : Out). o .answer) (run late room (started x) es)
-demand-3-answers x room es = run-answers room es (started x) (started x) (reached-twin (begun x))
+beside-calls : (cs : List Called) (s a : State) → Beside s a → Beside (stateAfter s cs) (through wholeAt a cs)
+unfolding stateAfter through
+beside-calls [] s a B = B
+beside-calls (c ∷ cs) s a B = beside-calls cs _ _ (beside-next s a c B)
 
-pub demand-3-masks : (x : Image) (room : ℕ) (es : List Event)
-    → map (λ (o : Out). o .mask) (run early room (started x) es) ≡ map (λ (o : Out). o .mask) (run late room (started x) es)
-demand-3-masks x room es = run-masks room es (started x) (started x) (reached-twin (begun x))
+-- what is the same of every call is the same of all
+beside-all : {A : Type 0} (f : Outcome → A) → ((s : State) (c : Called) (o p : Outcome) → SameOutcome s c o p → f o ≡ f p)
+    → (cs : List Called) (s a : State) → Beside s a → map f (outcomes s cs) ≡ map f (along wholeAt a cs)
+unfolding outcomes along
+beside-all f h [] s a B = refl
+beside-all f h (c ∷ cs) s a B = ap₂ _∷_ (h s c _ _ (beside-outcome s a c B)) (beside-all f h cs _ _ (beside-next s a c B))
+
+-- ---- DEMAND 3: after a start that is done and any calls, each with any event and any buffer
+module _ (x : Image) (d : StartDone x) (cs : List Called) where
+  -- the states
+  pub demand-3 : SameState (reachedBy x cs) (comparedBy x cs)
+  demand-3 = whole-states (beside-calls cs _ _ (beside-start x d) .reached)
+
+  -- the call after them
+  pub demand-3-next : (c : Called) → SameOutcome (reachedBy x cs) c (outcomeAt (reachedBy x cs) c) (wholeAt (comparedBy x cs) c)
+  demand-3-next c = beside-outcome _ _ c (beside-calls cs _ _ (beside-start x d))
+
+  -- all answers, and all commission masks
+  pub demand-3-answers : map (λ (o : Outcome). o .answer) (outcomes (startOutcome x .state) cs) ≡ map (λ (o : Outcome). o .answer) (along wholeAt (startOutcome x .state) cs)
+  demand-3-answers = beside-all (λ o. o .answer) (λ s c o p S. S .answer) cs _ _ (beside-start x d)
+
+  pub demand-3-masks : map (λ (o : Outcome). o .mask) (outcomes (startOutcome x .state) cs) ≡ map (λ (o : Outcome). o .mask) (along wholeAt (startOutcome x .state) cs)
+  demand-3-masks = beside-all (λ o. o .mask) (λ s c o p S. S .mask) cs _ _ (beside-start x d)

@@ -31,7 +31,7 @@ use Rattle.laws_frames.proofs.Registers.{advertised-below, applications-same}
 use Rattle.laws_frames.proofs.Changes.{copy-outside}
 use Rattle.laws_frames.proofs.Stages.{freed-in, freed-out, advanced-in, advanced-out}
 use Rattle.laws_frames.proofs.Back.{Fits}
-use Rattle.laws_sound.proofs.Sound.{seenOf, Sound}
+use Rattle.laws_sound.specs.Sound.{seenOf, Sound}
 use Rattle.laws_sound.proofs.Stranger.{not-idle, is-passing, is-rejected}
 use Rattle.laws_whole.specs.Whole.{activeBitOf, Alike}
 use Rattle.laws_whole.proofs.Area.{active-place}

@@ -1,10 +1,10 @@
--- Demand 3: a run, and the comparison run in which each accepted group is carried out whole at its closing step, with the settings held at its
--- trigger, are the same but for the active-setting bits of lanes in progress. The two differ in the mode of `step` alone: early and late.
+-- Demand 3: public calls after a start, and the comparison run in which each accepted group is carried out whole at its closing step, with the settings
+-- held at its trigger, are the same but for the active-setting bits of lanes in progress. The two differ in the mode of `step` alone: early and late.
 use Prim.Native.Nat.{ℕ, _+_, _<_}
 use mathlib.Core.Path.{_≡_}
 use mathlib.Core.Bool.{Bool, false}
 use mathlib.Core.List.{List}
-use lib.ListN.{length}
+use lib.ListN.{length, take, drop}
 use Rattle.bits.specs.Choice.{both}
 use Rattle.bits.specs.Loop.{anyBelow}
 use Rattle.bits.specs.Place.{digit, covers}
@@ -15,10 +15,24 @@ use Rattle.model.specs.Work.{early, late}
 use Rattle.model.specs.Pages.{placeOf}
 use Rattle.model.specs.Start.{started}
 use Rattle.model.specs.Step.{Out, step}
+use Rattle.model.specs.Outcome.{Outcome, startOutcome, stepOutcome}
 use Rattle.model.specs.declared.event.Call.{Call}
 use Rattle.model.specs.declared.event.Call.the-variants.{Write, Read, Work, Hardware, Condition, Sample}
 use Rattle.model.specs.declared.event.Event.{Event}
 use Rattle.model.specs.declared.lane.Working.{Working}
+use Rattle.laws.specs.Reading.{readCount}
+use Rattle.laws.specs.Calls.{Called}
+use Rattle.laws_sound.specs.Reached.{through}
+
+-- ---- the comparison run: the same events with the same buffers, beside the calls
+
+-- its call: a step in which a group is copied whole as it closes; it is never asked for 1, 2 and 3
+abbrev pub wholeAt : State → Called → Outcome
+wholeAt a c = stepOutcome (step late (length (c .buffer)) a (c .event)) (c .buffer)
+
+-- the state that it reaches by the same calls after the same start
+abbrev pub comparedBy : Image → List Called → State
+comparedBy x cs = through wholeAt (startOutcome x .state) cs
 
 -- ---- the bits that may differ
 
@@ -64,17 +78,30 @@ readAddress (Sample l p) = 0
 unfoldable pub hiddenRead : State → Call → ℕ → ℕ → Bool
 hiddenRead s c k b = hidden (s .working) (placeOf (s .image) (readAddress c) + k) b
 
--- two steps on an event, the first from state s: one answer, one commission mask, bytes read alike but for bits hidden as they are read, and
+-- two buffers left of one that was lent: their first n bytes are alike but for excepted bits, and the rest of each is untouched
+pub record SameBuffer (except : ℕ → ℕ → Bool) (n : ℕ) (lent xs ys : List ℕ) : Type 0 where
+  pub front : Alike except (take n xs) (take n ys)
+  pub rest : drop n xs ≡ drop n lent
+  pub rest′ : drop n ys ≡ drop n lent
+
+-- what a call on state s leaves in the two runs: one answer, one commission mask, buffers that differ at most in bits hidden as they are read, and
 -- the states after it the same in the sense above
+pub record SameOutcome (s : State) (c : Called) (o p : Outcome) : Type 0 where
+  pub answer : o .answer ≡ p .answer
+  pub mask : o .mask ≡ p .mask
+  pub buffer : SameBuffer (hiddenRead s (c .event .call)) (readCount (c .event .call)) (c .buffer) (o .buffer) (p .buffer)
+  pub state : SameState (o .state) (p .state)
+
+-- ---- inside: steps that ask for 1, 2 and 3 no more, and the states that they reach from any start
+
+-- two steps on an event, the first from state s, likewise: the bytes that they read are not yet in a buffer
 pub record SameStep (s : State) (c : Call) (o p : Out) : Type 0 where
   pub answer : o .answer ≡ p .answer
   pub mask : o .mask ≡ p .mask
   pub bytes : Alike (hiddenRead s c) (o .bytes) (p .bytes)
   pub state : SameState (o .state) (p .state)
 
--- ---- where the two runs get to
-
--- the states that they reach from one start by the same events, each read lent a buffer with any room
+-- the states that the two runs reach from one start by the same events, each read lent a buffer with any room
 pub data Reached : State → State → Type 0 where
   begun : (x : Image) → Reached (started x) (started x)
   then : {s a : State} → Reached s a → (room : ℕ) (e : Event) → Reached (step early room s e .state) (step late room a e .state)

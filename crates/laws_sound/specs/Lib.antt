@@ -1,0 +1,3 @@
+-- The vocabulary of the promises about soundness.
+pub mod Sound
+pub mod Reached
