@@ -8,7 +8,7 @@ use borrow.Author.Tests.{leb-true, not-false}
 use Rattle.bits.specs.Choice.{pick, both, either, implies}
 use Rattle.bits.specs.Place.{get}
 use Rattle.bits.specs.Sets.{has, maskOf, nextIn}
-use Rattle.bits.proofs.Tests.{both-l, both-r, and-both}
+use Rattle.bits.proofs.Tests.{both-l, both-r, and-both, or-implies}
 use Rattle.bits.proofs.Loops.{any-find, any-ext, all-ext}
 use Rattle.bits.proofs.Masks.{has-mask, first-in, next-bound}
 use Rattle.model.specs.Map.{Image, activeSet, stagedSet0, stateAt}
@@ -19,7 +19,6 @@ use Rattle.model.specs.Groups.{someIn, everyIn}
 use Rattle.model.specs.Work.{isRelease, written}
 use Rattle.model.specs.Sound.{makePath, agreeOnState, heldsOf, hasPurpose, rests, notCopied, restIsWhole, sameSettings, holdsCopied}
 use Rattle.model.specs.declared.lane.Working.{Working}
-use Rattle.stages.proofs.Turns.{or-implies}
 use Rattle.passing.proofs.Choices.{both-assoc, both-false}
 use Rattle.whole_paths.proofs.Lanes.{states-of, states-past}
 use Rattle.whole_paths.proofs.Wholes.{path-of-mask}

@@ -6,7 +6,7 @@ use Prim.Native.Nat.{_≤_, _-_}
 use Rattle.bits.specs.Sets.{maskOf}
 use Rattle.model.specs.View.{viewOf}
 use Rattle.model.specs.Groups.{inGroup, groupOf}
-use Rattle.paths.proofs.Turns.{mask-begin, mask-turn}
+use Rattle.bits.proofs.Turns.{mask-begin, mask-turn}
 use Rattle.groups.proofs.group_of.Statement.{statement}
 use Rattle.groups.proofs.group_of.Tie as tie
 

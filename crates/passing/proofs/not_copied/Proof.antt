@@ -5,7 +5,7 @@ use mathlib.Core.Path.{_≡_}
 use Prim.Native.Nat.{_≤_, _-_}
 use Rattle.bits.specs.Sets.{maskOf}
 use Rattle.model.specs.Sound.{notCopied}
-use Rattle.paths.proofs.Turns.{mask-begin, mask-turn}
+use Rattle.bits.proofs.Turns.{mask-begin, mask-turn}
 use Rattle.passing.proofs.Groups.{left-by}
 use Rattle.passing.proofs.not_copied.Statement.{statement}
 use Rattle.passing.proofs.not_copied.Tie as tie

@@ -8,7 +8,7 @@ use Rattle.bits.specs.Sets.{has}
 use Rattle.model.specs.Map.{activeSet}
 use Rattle.model.specs.View.{of, settingsOf, isUsed}
 use Rattle.model.specs.Groups.{someIn}
-use Rattle.paths.proofs.Turns.{any-begin, some-turn}
+use Rattle.bits.proofs.Turns.{any-begin, some-turn}
 use native.Mathlib.Omega.{arith}
 use Rattle.passing.proofs.some_used.Statement.{statement}
 use Rattle.passing.proofs.some_used.Tie as tie

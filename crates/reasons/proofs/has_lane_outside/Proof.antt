@@ -9,7 +9,7 @@ use Rattle.bits.specs.Choice.{both}
 use Rattle.bits.specs.Sets.{has}
 use Rattle.model.specs.View.{within}
 use Rattle.model.specs.Groups.{someIn}
-use Rattle.paths.proofs.Turns.{any-begin, some-turn}
+use Rattle.bits.proofs.Turns.{any-begin, some-turn}
 use Rattle.reasons.proofs.has_lane_outside.Statement.{statement}
 use Rattle.reasons.proofs.has_lane_outside.Tie as tie
 

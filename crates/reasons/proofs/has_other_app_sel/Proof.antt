@@ -11,7 +11,7 @@ use Rattle.bits.specs.Sets.{has}
 use Rattle.model.specs.View.{appSel, of, settingsOf}
 use Rattle.model.specs.Groups.{someIn}
 use Rattle.model.specs.Verdicts.{otherAppSel}
-use Rattle.paths.proofs.Turns.{any-begin, some-turn}
+use Rattle.bits.proofs.Turns.{any-begin, some-turn}
 use Rattle.reasons.proofs.has_other_app_sel.Statement.{statement}
 use Rattle.reasons.proofs.has_other_app_sel.Tie as tie
 

@@ -12,7 +12,7 @@ use Rattle.model.specs.Map.{activeSet}
 use Rattle.model.specs.View.{of, isUsed, pathOf, settingsOf}
 use Rattle.model.specs.Groups.{someIn}
 use Rattle.model.specs.Verdicts.{crossing}
-use Rattle.paths.proofs.Turns.{any-begin, any-turn}
+use Rattle.bits.proofs.Turns.{any-begin, any-turn}
 use Rattle.reasons.proofs.is_crossing.Statement.{statement}
 use Rattle.reasons.proofs.is_crossing.Tie as tie
 

@@ -10,7 +10,7 @@ use Rattle.bits.specs.Sets.{has}
 use Rattle.bits.proofs.Tests.{and-both}
 use Rattle.model.specs.View.{within}
 use Rattle.model.specs.Verdicts.{incomplete}
-use Rattle.paths.proofs.Turns.{any-begin, any-turn}
+use Rattle.bits.proofs.Turns.{any-begin, any-turn}
 use Rattle.reasons.proofs.is_incomplete.Statement.{statement}
 use Rattle.reasons.proofs.is_incomplete.Tie as tie
 

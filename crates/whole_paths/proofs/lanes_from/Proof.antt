@@ -5,7 +5,7 @@ use mathlib.Core.Path.{_≡_}
 use Prim.Native.Nat.{_≤_, _-_}
 use Rattle.bits.specs.Sets.{maskOf}
 use Rattle.model.specs.View.{within}
-use Rattle.paths.proofs.Turns.{mask-begin, mask-turn}
+use Rattle.bits.proofs.Turns.{mask-begin, mask-turn}
 use Rattle.whole_paths.proofs.Wholes.{within-by}
 use Rattle.whole_paths.proofs.lanes_from.Statement.{statement}
 use Rattle.whole_paths.proofs.lanes_from.Tie as tie
