@@ -1,5 +1,5 @@
 -- A lane's DPConfig byte is the first of its settings, and its parts fit their fields; a lane's state; and the path that two lanes share. Assumes nothing.
-use mathlib.Core.Path.{_≡_, _∙_}
+use mathlib.Core.Path.{_≡_, sym, _∙_}
 use mathlib.Core.Bool.{true, false}
 use mathlib.Core.List.{List}
 use Prim.Native.Nat.{ℕ, _≤_, _<_}
@@ -11,9 +11,9 @@ use borrow.Author.Tests.{eqb-true}
 use Rattle.bits.specs.Choice.{both}
 use Rattle.bits.specs.Lane.{laneField}
 use Rattle.bits.specs.Place.{get}
-use Rattle.bits.specs.Sets.{maskOf}
+use Rattle.bits.specs.Sets.{has, maskOf}
 use Rattle.bits.proofs.Loops.{tab-at, tab-past}
-use Rattle.bits.proofs.Masks.{mask-ext}
+use Rattle.bits.proofs.Masks.{has-mask, mask-ext}
 use Rattle.bits.proofs.Number.{got-lt}
 use Rattle.bits.proofs.Sets.{has-zero, set-is, and-is}
 use Rattle.bits.proofs.Tests.{both-l, both-r, eqb-sym}
@@ -58,10 +58,11 @@ module _ (s : List Settings) (l : ℕ) where
   unfolding pathOf samePath both
   path-used u w f e p i q = and-is laneCount _ _ p q ∙ mask-ext laneCount _ _ (λ m h. rw (e, both, i, eqb-sym (pathId (of s m)) (pathId (of s l))))
 
-  -- the lanes of a path have one path
-  pub path-shared : (m : ℕ) → samePath s l m ≡ true → pathOf s l ≡ pathOf s m
+  -- a lane of a path has that path
+  pub path-shared : (m : ℕ) → m < laneCount → has (pathOf s l) m ≡ true → pathOf s l ≡ pathOf s m
   unfolding pathOf samePath both
-  path-shared m e =
-      let r = both-r (isUsed (of s l)) _ e in
+  path-shared m b e =
+      let p : samePath s l m ≡ true = sym (has-mask laneCount (samePath s l) m b) ∙ e in
+      let r = both-r (isUsed (of s l)) _ p in
       let i : pathId (of s l) ≡ pathId (of s m) = eqb-true _ _ (both-r (isUsed (of s m)) _ r) in
-      mask-ext laneCount _ _ (λ k h. rw (both-l (isUsed (of s l)) _ e, both-l (isUsed (of s m)) _ r, both, i))
+      mask-ext laneCount _ _ (λ k h. rw (both-l (isUsed (of s l)) _ p, both-l (isUsed (of s m)) _ r, both, i))
