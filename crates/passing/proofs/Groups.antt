@@ -20,7 +20,7 @@ use Rattle.model.specs.Work.{isRelease, written}
 use Rattle.model.specs.Sound.{makePath, agreeOnState, heldsOf, hasPurpose, rests, notCopied, restIsWhole, sameSettings, holdsCopied}
 use Rattle.model.specs.declared.lane.Working.{Working}
 use Rattle.passing.proofs.Choices.{both-assoc, both-false}
-use Rattle.whole_paths.proofs.Lanes.{states-of, states-past}
+use Rattle.paths.proofs.Lanes.{state-at, state-past}
 use Rattle.whole_paths.proofs.Wholes.{path-of-mask}
 use Rattle.bits.specs.Loop.{allBelow}
 use Rattle.settings.proofs.View.{settings-of}
@@ -68,14 +68,14 @@ first-below g f e n = let b = next-bound 8 g 0 (omega arith) in omega arith
 
 pub rests-none : (x : Image) (w : Working) (g : ℕ) → nextIn 8 g 0 ≡ 8 → false ≡ rests (viewOf stagedSet0 x) w g
 unfolding rests viewOf stateOf resting pick both
-rests-none x w g e = rw (states-past x (nextIn 8 g 0) (omega arith)) (sym (both-false (agreeOnState (statesOf x) g (nextIn 8 g 0))))
+rests-none x w g e = rw (state-past x (nextIn 8 g 0) (omega arith)) (sym (both-false (agreeOnState (statesOf x) g (nextIn 8 g 0))))
 
 pub rests-by : (x : Image) (w : Working) (g f s : ℕ) (t u c : Bool) → f < 8 → f ≡ nextIn 8 g 0 → s ≡ get x (stateAt f)
     → t ≡ agreeOnState (statesOf x) g f → u ≡ resting (stateOf s) → c ≡ isRelease w g
     → (t && (u && (not c || eqb s 1))) ≡ rests (viewOf stagedSet0 x) w g
 unfolding rests viewOf
 rests-by x w g f s t u c b p e q r d =
-    rw (← p, states-of x f b, ← e, ← d)
+    rw (← p, state-at x f b, ← e, ← d)
     (and-both t (u && (not c || eqb s 1)) ∙ ap₂ both q (and-both u (not c || eqb s 1) ∙ ap₂ both r (or-implies c (eqb s 1))))
 
 pub copied-by : (x : Image) (w : Working) (g n : ℕ)
