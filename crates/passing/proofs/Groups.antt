@@ -25,10 +25,6 @@ use Rattle.whole_paths.proofs.Wholes.{path-of-mask}
 use Rattle.bits.specs.Loop.{allBelow}
 use Rattle.settings.proofs.View.{settings-of}
 
-pub left-by : (g n m : ℕ) (h : Bool) → h ≡ has g m → (h && leb n m) ≡ notCopied g n m
-unfolding notCopied
-left-by g n m h e = and-both h (leb n m) ∙ rw e
-
 -- a test of the lanes from the next one on is one of the rest
 pub some-rest : (g n : ℕ) (p : ℕ → Bool) → someIn g (λ m. both (leb n m) (p m)) ≡ someIn (maskOf 8 (notCopied g n)) p
 unfolding someIn notCopied
