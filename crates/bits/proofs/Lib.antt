@@ -5,4 +5,6 @@ pub mod Places
 pub mod Loops
 pub mod Lanes
 pub mod Masks
+pub mod Sets
+pub mod Turns
 pub mod Words

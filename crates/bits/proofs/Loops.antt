@@ -1,6 +1,6 @@
 -- Laws of the loops over the numbers below a count: what they keep, what they leave at each number, and what a search finds. Assumes nothing.
 use mathlib.Core.Path.{_≡_, refl, sym, ap, ap₂, _∙_}
-use mathlib.Core.Bool.{Bool, true, false}
+use mathlib.Core.Bool.{Bool, true, false, not}
 use mathlib.Core.List.{List, _∷_}
 use mathlib.Core.Logic.{_≢_}
 use Prim.Native.Nat.{ℕ, zero, suc, _+_, _%_, _^_, _≤_, _<_, zero-le, suc-le-suc}
@@ -14,7 +14,7 @@ use Rattle.bits.specs.declared.Place.{Place}
 use Rattle.bits.specs.Choice.{pick, onlyIf, both, either}
 use Rattle.bits.specs.Place.{get, put, apart}
 use Rattle.bits.specs.Loop.{each, tab, anyBelow, allBelow, seek}
-use Rattle.bits.proofs.Tests.{split, clash, both-l, both-r, both-i, either-l, either-r, pick-true, pick-false, only-true, only-false}
+use Rattle.bits.proofs.Tests.{split, clash, both-l, both-r, both-i, either-l, either-r, neither, pick-true, pick-false, only-true, only-false}
 use Rattle.bits.proofs.Places.{length-put, get-put, get-apart}
 
 -- ---- each
@@ -178,6 +178,12 @@ pub all-ext : (n : ℕ) (p q : ℕ → Bool) → ((k : ℕ) → k < n → p k �
 unfolding allBelow
 all-ext zero p q h = refl
 all-ext (suc n) p q h = ap₂ both (all-ext n p q (λ k b. h k (omega arith))) (h n (omega arith))
+
+-- none passes where all fail
+pub not-any : (n : ℕ) (p : ℕ → Bool) → not (anyBelow n p) ≡ allBelow n (λ k. not (p k))
+unfolding anyBelow allBelow
+not-any zero p = refl
+not-any (suc n) p = neither (anyBelow n p) (p n) ∙ ap (λ t. both t (not (p n))) (not-any n p)
 
 -- ---- seek: it starts at k, passes only what fails the test, and stops at what passes or after the last
 pub seek-le : (left k : ℕ) (p : ℕ → Bool) → k ≤ seek left k p

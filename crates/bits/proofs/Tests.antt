@@ -1,9 +1,12 @@
 -- Bool tests: case analysis, and what the tests of specs/Choice tell. Assumes nothing.
 use mathlib.Core.Path.{_≡_, refl, sym}
-use mathlib.Core.Bool.{Bool, true, false, _&&_, _||_}
+use mathlib.Core.Bool.{Bool, true, false, not, _&&_, _||_}
 use mathlib.Core.Logic.{_⊎_, inl, inr}
 use Prim.Native.Nat.{ℕ}
+use native.Mathlib.Decide.{decLt, ℕ-discrete}
 use native.Mathlib.Omega.{arith}
+use lib.Dec.{eqb, leb, ltb}
+use borrow.Author.Tests.{eq-eqb, ne-eqb, lt-ltb, le-ltb, le-leb, lt-leb}
 use Rattle.bits.specs.Choice.{pick, onlyIf, both, either, implies}
 
 -- by cases of a test, with the equation in hand
@@ -14,6 +17,10 @@ split false f g = g refl
 -- no test has both values
 pub clash : {b : Bool} → b ≡ true → b ≡ false → ⊥
 clash {b} p q = let z : _≡_ {A = ℕ} 0 1 = cc in omega arith
+
+pub not-not : (a : Bool) → not (not a) ≡ a
+not-not true = refl
+not-not false = refl
 
 -- two tests that imply each other are the same
 pub bool-eq : (a b : Bool) → (a ≡ true → b ≡ true) → (b ≡ true → a ≡ true) → a ≡ b
@@ -47,6 +54,11 @@ unfolding either
 either-r true b e = absurd (clash refl e)
 either-r false b e = e
 
+pub neither : (a b : Bool) → not (either a b) ≡ both (not a) (not b)
+unfolding both either
+neither true b = refl
+neither false b = refl
+
 -- one of either
 pub either-cases : (a b : Bool) → either a b ≡ true → (a ≡ true) ⊎ (b ≡ true)
 unfolding either
@@ -72,6 +84,12 @@ pub implies-i : (a b : Bool) → (a ≡ true → b ≡ true) → implies a b ≡
 unfolding implies
 implies-i true b f = f refl
 implies-i false b f = refl
+
+-- .. it has no exception
+pub no-exception : (a b : Bool) → not (both a (not b)) ≡ implies a b
+unfolding both implies
+no-exception true b = not-not b
+no-exception false b = refl
 
 -- a choice, once its test is known
 module _ {ℓ} {A : Type ℓ} {b : Bool} where
@@ -101,3 +119,26 @@ pub or-either : (a b : Bool) → (a || b) ≡ either a b
 unfolding either
 or-either true b = refl
 or-either false b = refl
+
+pub or-implies : (a b : Bool) → (not a || b) ≡ implies a b
+unfolding implies
+or-implies true b = refl
+or-implies false b = refl
+
+pub and-pick : (a b : Bool) → (a && b) ≡ pick a b false
+unfolding pick
+and-pick true b = refl
+and-pick false b = refl
+
+-- numbers compared the other way round
+pub eqb-sym : (a b : ℕ) → eqb a b ≡ eqb b a
+eqb-sym a b = elim (ℕ-discrete a b) [
+  | yes e ↦ rw (eq-eqb a b e, eq-eqb b a (sym e))
+  | no e ↦ rw (ne-eqb a b e, ne-eqb b a (λ q. e (sym q)))
+]
+
+pub not-ltb : (a b : ℕ) → not (ltb a b) ≡ leb b a
+not-ltb a b = elim (decLt a b) [
+  | yes h ↦ rw (lt-ltb a b h, lt-leb b a h)
+  | no h ↦ rw (le-ltb a b (omega arith), le-leb b a (omega arith))
+]

@@ -42,7 +42,7 @@ fn is_busy(image: &[u8], w: Working, lane: u8) -> bool
 {
     let path = paths::path_of(image, lane);
     let busy = triggers::busy_lanes(w);
-    stages::is_in_progress(stages::stage_at(w, lane)) | paths::meets(path, busy)
+    stages::is_in_progress(stages::stage_at(w, lane)) | sets::meets(path, busy)
 }
 
 // A hardware event on the path of a lane.

@@ -8,7 +8,7 @@ use borrow.Author.Tests.{leb-true, not-false}
 use Rattle.bits.specs.Choice.{pick, both, either, implies}
 use Rattle.bits.specs.Place.{get}
 use Rattle.bits.specs.Sets.{has, maskOf, nextIn}
-use Rattle.bits.proofs.Tests.{both-l, both-r, and-both}
+use Rattle.bits.proofs.Tests.{both-l, both-r, and-both, or-implies}
 use Rattle.bits.proofs.Loops.{any-find, any-ext, all-ext}
 use Rattle.bits.proofs.Masks.{has-mask, first-in, next-bound}
 use Rattle.model.specs.Map.{Image, activeSet, stagedSet0, stateAt}
@@ -19,16 +19,11 @@ use Rattle.model.specs.Groups.{someIn, everyIn}
 use Rattle.model.specs.Work.{isRelease, written}
 use Rattle.model.specs.Sound.{makePath, agreeOnState, heldsOf, hasPurpose, rests, notCopied, restIsWhole, sameSettings, holdsCopied}
 use Rattle.model.specs.declared.lane.Working.{Working}
-use Rattle.stages.proofs.Turns.{or-implies}
 use Rattle.passing.proofs.Choices.{both-assoc, both-false}
-use Rattle.whole_paths.proofs.Lanes.{states-of, states-past}
+use Rattle.paths.proofs.Lanes.{state-at, state-past}
 use Rattle.whole_paths.proofs.Wholes.{path-of-mask}
 use Rattle.bits.specs.Loop.{allBelow}
 use Rattle.settings.proofs.View.{settings-of}
-
-pub left-by : (g n m : ℕ) (h : Bool) → h ≡ has g m → (h && leb n m) ≡ notCopied g n m
-unfolding notCopied
-left-by g n m h e = and-both h (leb n m) ∙ rw e
 
 -- a test of the lanes from the next one on is one of the rest
 pub some-rest : (g n : ℕ) (p : ℕ → Bool) → someIn g (λ m. both (leb n m) (p m)) ≡ someIn (maskOf 8 (notCopied g n)) p
@@ -69,14 +64,14 @@ first-below g f e n = let b = next-bound 8 g 0 (omega arith) in omega arith
 
 pub rests-none : (x : Image) (w : Working) (g : ℕ) → nextIn 8 g 0 ≡ 8 → false ≡ rests (viewOf stagedSet0 x) w g
 unfolding rests viewOf stateOf resting pick both
-rests-none x w g e = rw (states-past x (nextIn 8 g 0) (omega arith)) (sym (both-false (agreeOnState (statesOf x) g (nextIn 8 g 0))))
+rests-none x w g e = rw (state-past x (nextIn 8 g 0) (omega arith)) (sym (both-false (agreeOnState (statesOf x) g (nextIn 8 g 0))))
 
 pub rests-by : (x : Image) (w : Working) (g f s : ℕ) (t u c : Bool) → f < 8 → f ≡ nextIn 8 g 0 → s ≡ get x (stateAt f)
     → t ≡ agreeOnState (statesOf x) g f → u ≡ resting (stateOf s) → c ≡ isRelease w g
     → (t && (u && (not c || eqb s 1))) ≡ rests (viewOf stagedSet0 x) w g
 unfolding rests viewOf
 rests-by x w g f s t u c b p e q r d =
-    rw (← p, states-of x f b, ← e, ← d)
+    rw (← p, state-at x f b, ← e, ← d)
     (and-both t (u && (not c || eqb s 1)) ∙ ap₂ both q (and-both u (not c || eqb s 1) ∙ ap₂ both r (or-implies c (eqb s 1))))
 
 pub copied-by : (x : Image) (w : Working) (g n : ℕ)

@@ -18,7 +18,7 @@ use model::lane::Working;
 use model::path::PathState;
 
 // (e) a passing group is a release, or its held settings make a whole path of exactly its lanes.
-pub fn has_purpose(image: &[u8], w: Working, group: u8) -> bool
+fn has_purpose(image: &[u8], w: Working, group: u8) -> bool
     requires { ⌜ length (now image) ≡ 768 ⌝ }
     ensures { λ r. ⌜ r ≡ hasPurpose (viewOf stagedSet0 (now (image .entry))) w group ⌝ }
 {
@@ -30,7 +30,7 @@ pub fn has_purpose(image: &[u8], w: Working, group: u8) -> bool
 }
 
 // Its lanes agree on state 1, 4 or 7, on 1 for a release; an empty group has no state.
-pub fn rests(image: &[u8], w: Working, group: u8) -> bool
+fn rests(image: &[u8], w: Working, group: u8) -> bool
     requires { ⌜ length (now image) ≡ 768 ⌝ }
     ensures { λ r. ⌜ r ≡ rests (viewOf stagedSet0 (now (image .entry))) w group ⌝ }
 {
@@ -45,7 +45,7 @@ pub fn rests(image: &[u8], w: Working, group: u8) -> bool
 }
 
 // Whether two lanes' settings are the same, one by one.
-pub fn same_settings(h: Settings, k: Settings) -> bool
+fn same_settings(h: Settings, k: Settings) -> bool
     ensures { λ r. ⌜ r ≡ sameSettings h k ⌝ }
 {
     (h.config == k.config)
@@ -59,7 +59,7 @@ pub fn same_settings(h: Settings, k: Settings) -> bool
 }
 
 // Whether a lane's active settings are what the copying writes.
-pub fn is_copied(image: &[u8], w: Working, lane: u8) -> bool
+fn is_copied(image: &[u8], w: Working, lane: u8) -> bool
     requires { ⌜ (length (now image) ≡ 768) × (lane < 8) ⌝ }
     ensures { λ r. ⌜ r ≡ sameSettings (settingsAt activeSet (now (image .entry)) lane) (written (heldIn (stageAt w lane))) ⌝ }
 {
@@ -69,7 +69,7 @@ pub fn is_copied(image: &[u8], w: Working, lane: u8) -> bool
 }
 
 // Its lanes before the next one hold what the copying writes.
-pub fn holds_copied(image: &[u8], w: Working, group: u8, n: u8) -> bool
+fn holds_copied(image: &[u8], w: Working, group: u8, n: u8) -> bool
     requires { ⌜ length (now image) ≡ 768 ⌝ }
     ensures { λ r. ⌜ r ≡ holdsCopied (viewOf stagedSet0 (now (image .entry))) w group n ⌝ }
 {
@@ -82,32 +82,22 @@ pub fn holds_copied(image: &[u8], w: Working, group: u8, n: u8) -> bool
 }
 
 // The lanes of a group from the next one on.
-pub fn not_copied(group: u8, n: u8) -> u8
+fn not_copied(group: u8, n: u8) -> u8
     ensures { λ r. ⌜ r ≡ maskOf 8 (notCopied group n) ⌝ }
 {
-    let mut rest: u8 = 0;
-    for lane in 0..8u8 {
-        let left = sets::is_in(group, lane) & (n <= lane);
-        rest = sets::with_lane(rest, lane, left);
-    }
-    rest
+    group & !sets::lanes_below(n as u16)
 }
 
 // Whether a lane of a set is used.
-pub fn some_used(image: &[u8], set: u8) -> bool
+fn some_used(image: &[u8], set: u8) -> bool
     requires { ⌜ length (now image) ≡ 768 ⌝ }
     ensures { λ r. ⌜ r ≡ someIn set (λ m. isUsed (of (settingsOf activeSet (now (image .entry))) m)) ⌝ }
 {
-    let mut some = false;
-    for lane in 0..8u8 {
-        let used = paths::used_at(image, ACTIVE_SET, lane);
-        some = some | (sets::is_in(set, lane) & used);
-    }
-    some
+    sets::meets(set, paths::used_lanes(image, ACTIVE_SET))
 }
 
 // The rest of its lanes are all unused, or their whole path would be the group.
-pub fn rest_is_whole(image: &[u8], group: u8, n: u8) -> bool
+fn rest_is_whole(image: &[u8], group: u8, n: u8) -> bool
     requires { ⌜ length (now image) ≡ 768 ⌝ }
     ensures { λ r. ⌜ r ≡ restIsWhole (viewOf stagedSet0 (now (image .entry))) group n ⌝ }
 {
@@ -120,7 +110,7 @@ pub fn rest_is_whole(image: &[u8], group: u8, n: u8) -> bool
 }
 
 // (e) of a group by its verdict.
-pub fn passing_fits(image: &[u8], w: Working, group: u8, verdict: Verdict) -> bool
+fn passing_fits(image: &[u8], w: Working, group: u8, verdict: Verdict) -> bool
     requires { ⌜ length (now image) ≡ 768 ⌝ }
     ensures { λ r. ⌜ r ≡ passingFits (viewOf stagedSet0 (now (image .entry))) w group verdict ⌝ }
 {

@@ -1,12 +1,13 @@
-// Paths: which lanes an active DataPathID joins, and the states that a path rests in.
+// Paths: the lanes of an AppSel, a DataPathID or a state, which of them an active DataPathID joins, and the states that a path rests in.
 ghost use mathlib.Core.Path.{_≡_};
 ghost use Prim.Native.Nat.{_+_, _≤_, _<_};
+ghost use lib.Dec.{eqb};
 ghost use lib.ListN.{length};
-ghost use Rattle.bits.specs.Sets.{has};
-ghost use Rattle.model.specs.Map.{activeSet};
+ghost use Rattle.bits.specs.Number.{field};
+ghost use Rattle.bits.specs.Sets.{maskOf};
+ghost use Rattle.model.specs.Map.{imageLength, laneCount, activeSet};
 ghost use Rattle.model.specs.PathStates.{resting};
-ghost use Rattle.model.specs.View.{appSel, pathId, of, isUsed, settingsOf, samePath, pathOf};
-ghost use Rattle.model.specs.Groups.{someIn};
+ghost use Rattle.model.specs.View.{appSel, pathId, of, stateIn, isUsed, settingsOf, statesOf, pathOf};
 use map::ACTIVE_SET;
 use model::path::PathState;
 
@@ -34,13 +35,55 @@ pub fn used_at(image: &[u8], base: usize, lane: u8) -> bool
     app_at(image, base, lane) != 0
 }
 
-// Whether two lanes are used and of one active DataPathID.
-pub fn same_path(image: &[u8], lane: u8, other: u8) -> bool
-    requires { ⌜ (length (now image) ≡ 768) × (lane < 8) × (other < 8) ⌝ }
-    ensures { λ r. ⌜ r ≡ samePath (settingsOf activeSet (now (image .entry))) lane other ⌝ }
+// The lanes that have a value in the bits shift .. shift + width - 1 of their DPConfig in the set at a base.
+fn lanes_with(image: &[u8], base: usize, shift: u8, width: u8, value: u8) -> u8
+    requires { ⌜ (base + laneCount ≤ length (now image)) × (width + shift ≤ 8) ⌝ }
+    ensures { λ r. ⌜ r ≡ maskOf laneCount (λ m. eqb (field (of (settingsOf base (now (image .entry))) m .config) shift width) value) ⌝ }
 {
-    let same = id_at(image, ACTIVE_SET, lane) == id_at(image, ACTIVE_SET, other);
-    used_at(image, ACTIVE_SET, lane) & (used_at(image, ACTIVE_SET, other) & same)
+    let mut found: u8 = 0;
+    for lane in 0..8u8 {
+        let config = lanes::lane_byte(image, base, lane);
+        let same = bits::take_field(config, shift, width) == value;
+        found = sets::with_lane(found, lane, same);
+    }
+    found
+}
+
+// The lanes of an AppSel in the set at a base.
+pub fn lanes_with_app(image: &[u8], base: usize, app: u8) -> u8
+    requires { ⌜ base + laneCount ≤ length (now image) ⌝ }
+    ensures { λ r. ⌜ r ≡ maskOf laneCount (λ m. eqb (appSel (of (settingsOf base (now (image .entry))) m)) app) ⌝ }
+{
+    lanes_with(image, base, 4, 4, app)
+}
+
+// The lanes of a DataPathID in the set at a base.
+pub fn lanes_with_id(image: &[u8], base: usize, id: u8) -> u8
+    requires { ⌜ base + laneCount ≤ length (now image) ⌝ }
+    ensures { λ r. ⌜ r ≡ maskOf laneCount (λ m. eqb (pathId (of (settingsOf base (now (image .entry))) m)) id) ⌝ }
+{
+    lanes_with(image, base, 1, 3, id)
+}
+
+// The lanes that are used in the set at a base.
+pub fn used_lanes(image: &[u8], base: usize) -> u8
+    requires { ⌜ base + laneCount ≤ length (now image) ⌝ }
+    ensures { λ r. ⌜ r ≡ maskOf laneCount (λ m. isUsed (of (settingsOf base (now (image .entry))) m)) ⌝ }
+{
+    !lanes_with_app(image, base, 0)
+}
+
+// The lanes in a state.
+pub fn lanes_in_state(image: &[u8], state: u8) -> u8
+    requires { ⌜ length (now image) ≡ imageLength ⌝ }
+    ensures { λ r. ⌜ r ≡ maskOf laneCount (λ m. eqb (stateIn (statesOf (now (image .entry))) m) state) ⌝ }
+{
+    let mut found: u8 = 0;
+    for lane in 0..8u8 {
+        let same = lanes::nibble(image, map::STATES, lane) == state;
+        found = sets::with_lane(found, lane, same);
+    }
+    found
 }
 
 // The lanes of a lane's path; none where it is unused.
@@ -48,19 +91,12 @@ pub fn path_of(image: &[u8], lane: u8) -> u8
     requires { ⌜ (length (now image) ≡ 768) × (lane < 8) ⌝ }
     ensures { λ r. ⌜ r ≡ pathOf (settingsOf activeSet (now (image .entry))) lane ⌝ }
 {
-    let mut path: u8 = 0;
-    for other in 0..8u8 {
-        let joined = same_path(image, lane, other);
-        path = sets::with_lane(path, other, joined);
+    let used = used_lanes(image, ACTIVE_SET);
+    if !sets::is_in(used, lane) {
+        return 0;
     }
-    path
-}
-
-// Whether two sets share a lane.
-pub fn meets(a: u8, b: u8) -> bool
-    ensures { λ r. ⌜ r ≡ someIn a (has b) ⌝ }
-{
-    a & b != 0
+    let id = id_at(image, ACTIVE_SET, lane);
+    used & lanes_with_id(image, ACTIVE_SET, id)
 }
 
 // Whether a path rests in a state: DPDeactivated, DPInitialized, DPActivated.

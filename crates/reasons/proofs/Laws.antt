@@ -1,17 +1,16 @@
--- The limits by the code's tests, and the state of a lane of the view. Assumes nothing.
+-- The limits by the code's tests, and a state that no staged set has part in. Assumes nothing.
 use mathlib.Core.Path.{_≡_, refl, ap, _∙_}
 use mathlib.Core.Bool.{Bool, not, _&&_, _||_}
-use Prim.Native.Nat.{ℕ, _≤_, _<_}
+use Prim.Native.Nat.{ℕ}
 use lib.Dec.{eqb, ltb}
 use lib.ListN.{getD}
 use Rattle.bits.specs.Choice.{both, either}
 use Rattle.bits.specs.Number.{field}
 use Rattle.bits.specs.Place.{get}
 use Rattle.bits.specs.Sets.{has}
-use Rattle.bits.proofs.Loops.{tab-at, tab-past}
 use Rattle.bits.proofs.Tests.{and-both, or-either}
-use Rattle.model.specs.Map.{Image, stateAt}
-use Rattle.model.specs.View.{explicit, limitsOf, stateIn, statesOf, viewOf}
+use Rattle.model.specs.Map.{Image}
+use Rattle.model.specs.View.{explicit, limitsOf, viewOf}
 use Rattle.model.specs.Verdicts.{outOfLimits, tooLate, wrongState}
 use Rattle.model.specs.declared.lane.Settings.{Settings}
 use Rattle.model.specs.declared.lane.Trigger.{Trigger}
@@ -26,14 +25,6 @@ unfolding outOfLimits limitsOf get
 limits-by x h e q p o a r hq hp ho ha hr he =
     rw (hq, hp, ho, hr, ha, he)
     (and-both _ _ ∙ ap (both _) (or-either _ _ ∙ ap (either _) (or-either _ _ ∙ ap (either _) (or-either _ _))))
-
-pub state-at : (x : Image) (l : ℕ) → l < 8 → stateIn (statesOf x) l ≡ get x (stateAt l)
-unfolding statesOf
-state-at x l h = tab-at 8 (λ m. get x (stateAt m)) l 0 h
-
-pub state-past : (x : Image) (l : ℕ) → 8 ≤ l → stateIn (statesOf x) l ≡ 0
-unfolding statesOf
-state-past x l h = tab-past 8 (λ m. get x (stateAt m)) l 0 h
 
 -- the staged set has no part in the state
 pub any-set : (t : Trigger) (base other g a : ℕ) (x : Image) → wrongState t (viewOf base x) g a ≡ wrongState t (viewOf other x) g a

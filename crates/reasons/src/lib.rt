@@ -2,13 +2,13 @@
 ghost use mathlib.Core.Path.{_≡_};
 ghost use mathlib.Core.Bool.{not};
 ghost use Prim.Native.Nat.{_+_, _≤_, _<_};
-ghost use lib.Dec.{eqb, ltb};
+ghost use lib.Dec.{ltb};
 ghost use lib.ListN.{length};
 ghost use Rattle.bits.specs.Choice.{both, either};
 ghost use Rattle.bits.specs.Sets.{has};
 ghost use Rattle.model.specs.Map.{activeSet};
-ghost use Rattle.model.specs.View.{of, stateIn, isUsed, within, pathOf, limitsOf, settingsOf, statesOf, viewOf};
-ghost use Rattle.model.specs.Groups.{firstIn, someIn};
+ghost use Rattle.model.specs.View.{of, stateIn, limitsOf, settingsOf, statesOf, viewOf};
+ghost use Rattle.model.specs.Groups.{firstIn};
 ghost use Rattle.model.specs.Verdicts.{otherAppSel, misplaced, incomplete, crossing, outOfLimits, unsupported, tooLate, wrongState};
 use map::ACTIVE_SET;
 use model::application::Descriptor;
@@ -29,31 +29,7 @@ pub fn has_other_app_sel(image: &[u8], base: usize, group: u8, app: u8) -> bool
     requires { ⌜ (length (now image) ≡ 768) × (base + 29 ≤ 768) ⌝ }
     ensures { λ r. ⌜ r ≡ otherAppSel (settingsOf base (now (image .entry))) group app ⌝ }
 {
-    let mut other = false;
-    for lane in 0..8u8 {
-        let differs = paths::app_at(image, base, lane) != app;
-        other = other | (sets::is_in(group, lane) & differs);
-    }
-    other
-}
-
-// Whether a lane is one of the count lanes from first on.
-fn is_within(first: u8, count: u8, lane: u8) -> bool
-    ensures { λ r. ⌜ r ≡ within first count lane ⌝ }
-{
-    (first <= lane) & ((lane as u16) < (first as u16) + (count as u16))
-}
-
-// Whether a lane of the group lies outside them.
-fn has_lane_outside(first: u8, count: u8, group: u8) -> bool
-    ensures { λ r. ⌜ r ≡ someIn group (λ m. not (within first count m)) ⌝ }
-{
-    let mut outside = false;
-    for lane in 0..8u8 {
-        let beyond = !is_within(first, count, lane);
-        outside = outside | (sets::is_in(group, lane) & beyond);
-    }
-    outside
+    sets::meets(group, !paths::lanes_with_app(image, base, app))
 }
 
 // Whether the Application may not begin at first, would end past the last lane, or does not reach every lane of the group.
@@ -63,45 +39,29 @@ pub fn is_misplaced(d: Descriptor, first: u8, group: u8) -> bool
 {
     let count = d.count;
     let past = 8 < (first as u16) + (count as u16);
-    !sets::is_in(d.firsts, first) | (past | has_lane_outside(first, count, group))
+    let outside = sets::meets(group, !sets::lanes_from(first, count));
+    !sets::is_in(d.firsts, first) | (past | outside)
 }
 
 // Whether a lane that the Application takes is not in the group.
 pub fn is_incomplete(d: Descriptor, first: u8, group: u8) -> bool
     ensures { λ r. ⌜ r ≡ incomplete d first group ⌝ }
 {
-    let count = d.count;
-    let mut missing = false;
-    for lane in 0..8u8 {
-        let taken = is_within(first, count, lane);
-        missing = missing | (taken & !sets::is_in(group, lane));
-    }
-    missing
+    let taken = sets::lanes_from(first, d.count);
+    sets::meets(taken, !group)
 }
 
-// Whether a lane is one of the group and on an active path of other lanes.
-fn crosses(image: &[u8], group: u8, lane: u8) -> bool
-    requires { ⌜ (length (now image) ≡ 768) × (lane < 8) ⌝ }
-    ensures { λ r. ⌜ r ≡ both (has group lane) (both (isUsed (of (settingsOf activeSet (now (image .entry))) lane)) (not (eqb (pathOf (settingsOf activeSet (now (image .entry))) lane) group))) ⌝ }
-{
-    if !sets::is_in(group, lane) {
-        return false;
-    }
-    if !paths::used_at(image, ACTIVE_SET, lane) {
-        return false;
-    }
-    paths::path_of(image, lane) != group
-}
-
+// Whether a lane of the group is on an active path of other lanes. The group's first used lane tells: where its path is the group, so is that of the others.
 pub fn is_crossing(image: &[u8], group: u8) -> bool
     requires { ⌜ length (now image) ≡ 768 ⌝ }
     ensures { λ r. ⌜ r ≡ crossing (settingsOf activeSet (now (image .entry))) group ⌝ }
 {
-    let mut crossing = false;
-    for lane in 0..8u8 {
-        crossing = crossing | crosses(image, group, lane);
+    let used = group & paths::used_lanes(image, ACTIVE_SET);
+    let first = sets::next_in(used, 0);
+    if first < 8 {
+        return paths::path_of(image, first) != group;
     }
-    crossing
+    false
 }
 
 // Whether the module does not offer an amplitude code.

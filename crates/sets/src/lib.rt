@@ -1,9 +1,16 @@
 // Sets of lanes, a bit for each in a byte.
 ghost use mathlib.Core.Path.{_≡_};
 ghost use Prim.Native.Nat.{_≤_, _<_};
+ghost use lib.Dec.{ltb};
 ghost use mir.Val.{boolByte};
 ghost use Rattle.bits.specs.Number.{withField};
-ghost use Rattle.bits.specs.Sets.{has, nextIn};
+ghost use Rattle.bits.specs.Sets.{has, maskOf, nextIn};
+ghost use Rattle.model.specs.Map.{laneCount};
+ghost use Rattle.model.specs.View.{within};
+ghost use Rattle.model.specs.Groups.{someIn, everyIn};
+
+// Every lane.
+const ALL: u8 = 255;
 
 // Whether a set has a lane.
 pub fn is_in(set: u8, lane: u8) -> bool
@@ -32,4 +39,36 @@ pub fn next_in(set: u8, from: u8) -> u8
         }
     }
     8
+}
+
+// Whether two sets share a lane.
+pub fn meets(a: u8, b: u8) -> bool
+    ensures { λ r. ⌜ r ≡ someIn a (has b) ⌝ }
+{
+    a & b != 0
+}
+
+// Whether each lane of a set is in another.
+pub fn lies_in(a: u8, b: u8) -> bool
+    ensures { λ r. ⌜ r ≡ everyIn a (has b) ⌝ }
+{
+    a & !b == 0
+}
+
+// The lanes below an end.
+pub fn lanes_below(end: u16) -> u8
+    ensures { λ r. ⌜ r ≡ maskOf laneCount (λ m. ltb m end) ⌝ }
+{
+    if 8 <= end {
+        return ALL;
+    }
+    (bits::pow2(end as u8) - 1) as u8
+}
+
+// The lanes first .. first + count - 1.
+pub fn lanes_from(first: u8, count: u8) -> u8
+    ensures { λ r. ⌜ r ≡ maskOf laneCount (within first count) ⌝ }
+{
+    let end = (first as u16) + (count as u16);
+    !lanes_below(first as u16) & lanes_below(end)
 }

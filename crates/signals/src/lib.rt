@@ -11,7 +11,7 @@ pub fn some_bit(image: &[u8], at: usize, set: u8) -> bool
     requires { ⌜ at + 1 ≤ length (now image) ⌝ }
     ensures { λ r. ⌜ r ≡ someBit (now (image .entry)) (laneField at 1) set ⌝ }
 {
-    paths::meets(set, image[at])
+    sets::meets(set, image[at])
 }
 
 // S: a DPDeinit bit of the path is 1.

@@ -12,7 +12,7 @@ use Rattle.bits.specs.Sets.{has}
 use Rattle.model.specs.Map.{Image, activeSet, stagedSet0, stateAt, pendingAt}
 use Rattle.model.specs.Lanes.{stageAt, idleWorking, isPassing}
 use Rattle.model.specs.declared.lane.Working.{Working}
-use Rattle.whole_paths.proofs.Lanes.{states-of}
+use Rattle.paths.proofs.Lanes.{state-at}
 use Rattle.model.specs.declared.lane.Stage.{Stage}
 use Rattle.whole_paths.proofs.Wholes.{path-of-mask}
 use Rattle.passing.proofs.Choices.{four-by}
@@ -47,7 +47,7 @@ lane-by a b p o g = four-by a b (p || o) g ∙ ap (λ t. both (both a b) (both t
 pub rest-by : (x : Image) (l s p : ℕ) → l < 8 → s ≡ get x (stateAt l) → p ≡ get x (pendingAt l)
     → (eqb s 1 && eqb p 0) ≡ isAtRest x (viewOf stagedSet0 x) l
 unfolding isAtRest viewOf
-rest-by x l s p h e f = rw (states-of x l h, ← e, ← f) (and-both (eqb s 1) (eqb p 0))
+rest-by x l s p h e f = rw (state-at x l h, ← e, ← f) (and-both (eqb s 1) (eqb p 0))
 
 -- (c) of a used lane
 pub in-whole-by : (x : Image) (l g s : ℕ) (t u : Bool) → l < 8 → g ≡ pathOf (settingsOf activeSet x) l → s ≡ get x (stateAt l)
@@ -56,7 +56,7 @@ pub in-whole-by : (x : Image) (l g s : ℕ) (t u : Bool) → l < 8 → g ≡ pat
 unfolding inWholePath viewOf pathOf
 in-whole-by x l g s t u b p e q r =
     let made = path-of-mask (applicationsOf x) (settingsOf activeSet x) (samePath (settingsOf activeSet x) l) l g in
-    rw (states-of x l b, ← p, ← e)
+    rw (state-at x l b, ← p, ← e)
     (and-both t (u && (leb 1 s && leb s 7)) ∙ ap₂ both (q ∙ (rw (← p) at made)) (and-both u (leb 1 s && leb s 7) ∙ ap₂ both r (and-both (leb 1 s) (leb s 7))))
 
 -- (c) and (d): which of them is asked of a lane

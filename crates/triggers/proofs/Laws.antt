@@ -16,7 +16,7 @@ use Rattle.bits.proofs.Tests.{split, pick-true, pick-false}
 use Rattle.bits.proofs.Number.{back, field-past}
 use Rattle.bits.proofs.Masks.{mask-lt, has-mask}
 use Rattle.bits.proofs.Loops.{each-begin, each-ext, each-turn, each-pass, set-loop, tab-ext, any-ext}
-use Rattle.paths.proofs.Turns.{mask-begin, mask-turn}
+use Rattle.bits.proofs.Turns.{mask-begin, mask-turn}
 use Rattle.verdicts.proofs.Laws.{verdict-none}
 use Rattle.settings.proofs.View.{settings-of}
 use Rattle.model.specs.Map.{Image}

@@ -107,7 +107,7 @@ fn mark(image: &[u8], w: Working, kind: Trigger, base: usize, selected: u8) -> M
     for lane in 0..8u8 {
         if sets::is_in(selected, lane) {
             let group = groups::group_of(image, base, selected, lane);
-            if !paths::meets(group, busy) {
+            if !sets::meets(group, busy) {
                 verdict = judge(image, base, kind, group, last, verdict);
                 last = group;
                 let own = marked_record(image, kind, base, lane, group, verdict);

@@ -1,26 +1,16 @@
--- What a group asks for fits its fields; the verdict on no lanes; and a release is judged by the active settings alone. Assumes nothing.
+-- The verdict on no lanes; and a release is judged by the active settings alone. Assumes nothing.
 use mathlib.Core.Path.{_≡_, refl}
 use mathlib.Core.Bool.{false}
-use Prim.Native.Nat.{ℕ, _≤_, _<_}
+use Prim.Native.Nat.{ℕ, _≤_}
 use Rattle.bits.specs.Choice.{pick}
 use Rattle.bits.specs.Number.{field}
 use Rattle.bits.proofs.Loops.{tab-past}
-use Rattle.bits.proofs.Number.{got-lt}
 use Rattle.model.specs.Map.{Image, activeSet}
 use Rattle.model.specs.Lanes.{noSettings}
-use Rattle.model.specs.View.{appSel, pathId, of, isUsed, settingsAt, settingsOf, viewOf}
+use Rattle.model.specs.View.{appSel, of, isUsed, settingsAt, settingsOf, viewOf}
 use Rattle.model.specs.Groups.{firstIn}
 use Rattle.model.specs.Verdicts.{passed, pathRelease, releaseVerdict, verdictOf}
-use Rattle.model.specs.declared.lane.Settings.{Settings}
 use Rattle.model.specs.declared.lane.Trigger.{Trigger}
-
-pub id-lt : (h : Settings) → pathId h < 8
-unfolding pathId
-id-lt h = got-lt (h .config) 1 3
-
-pub app-lt : (h : Settings) → appSel h < 16
-unfolding appSel
-app-lt h = got-lt (h .config) 4 4
 
 -- past the last lane nothing is used
 unused-past : (base : ℕ) (x : Image) (l : ℕ) → 8 ≤ l → isUsed (of (settingsOf base x) l) ≡ false

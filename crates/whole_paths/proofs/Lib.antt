@@ -1,3 +1,3 @@
--- What a view and the records have of each lane, and whole paths.
+-- What the records have of each lane, and whole paths.
 pub mod Lanes
 pub mod Wholes

@@ -2,32 +2,28 @@
 ghost use mathlib.Core.Path.{_≡_};
 ghost use Prim.Native.Nat.{_<_};
 ghost use lib.ListN.{length};
-ghost use Rattle.bits.specs.Sets.{has, maskOf};
+ghost use Rattle.bits.specs.Sets.{has};
 ghost use Rattle.model.specs.Map.{activeSet};
-ghost use Rattle.model.specs.View.{settingsOf, statesOf, applicationsOf, applicationIn, within, fills};
+ghost use Rattle.model.specs.View.{settingsOf, statesOf, applicationsOf, applicationIn, fills};
 ghost use Rattle.model.specs.Sound.{share, makePath, agreeOnState, heldsOf};
 use map::ACTIVE_SET;
 use model::application::Lookup;
 use model::lane::Working;
 
 // Whether the lanes of a set share a lane's active AppSel, not 0, and its DataPathID.
-pub fn share_active(image: &[u8], set: u8, lane: u8) -> bool
+fn share_active(image: &[u8], set: u8, lane: u8) -> bool
     requires { ⌜ (length (now image) ≡ 768) × (lane < 8) ⌝ }
     ensures { λ r. ⌜ r ≡ share (settingsOf activeSet (now (image .entry))) (has set) lane ⌝ }
 {
     let app = paths::app_at(image, ACTIVE_SET, lane);
     let id = paths::id_at(image, ACTIVE_SET, lane);
-    let mut all = true;
-    for other in 0..8u8 {
-        let same_app = paths::app_at(image, ACTIVE_SET, other) == app;
-        let same_id = paths::id_at(image, ACTIVE_SET, other) == id;
-        all = all & (!sets::is_in(set, other) | (same_app & same_id));
-    }
-    (app != 0) & all
+    let with_app = paths::lanes_with_app(image, ACTIVE_SET, app);
+    let with_id = paths::lanes_with_id(image, ACTIVE_SET, id);
+    (app != 0) & sets::lies_in(set, with_app & with_id)
 }
 
 // The same of the settings held.
-pub fn share_held(w: Working, set: u8, lane: u8) -> bool
+fn share_held(w: Working, set: u8, lane: u8) -> bool
     requires { ⌜ lane < 8 ⌝ }
     ensures { λ r. ⌜ r ≡ share (heldsOf w) (has set) lane ⌝ }
 {
@@ -43,21 +39,8 @@ pub fn share_held(w: Working, set: u8, lane: u8) -> bool
     (app != 0) & all
 }
 
-// The lanes first .. first + count - 1.
-pub fn lanes_from(first: u8, count: u8) -> u8
-    ensures { λ r. ⌜ r ≡ maskOf 8 (within first count) ⌝ }
-{
-    let end = (first as u32) + (count as u32);
-    let mut set: u8 = 0;
-    for lane in 0..8u8 {
-        let inside = (first <= lane) & ((lane as u32) < end);
-        set = sets::with_lane(set, lane, inside);
-    }
-    set
-}
-
 // Whether a set is first .. first + n - 1, for a descriptor of n lanes that allows first.
-pub fn fills(found: Lookup, first: u8, set: u8) -> bool
+fn fills(found: Lookup, first: u8, set: u8) -> bool
     requires { ⌜ first < 8 ⌝ }
     ensures { λ r. ⌜ r ≡ fills found first set ⌝ }
 {
@@ -65,14 +48,14 @@ pub fn fills(found: Lookup, first: u8, set: u8) -> bool
         Lookup::Missing => false,
         Lookup::Found(d) => {
             let end = (first as u32) + (d.count as u32);
-            let all = lanes_from(first, d.count);
+            let all = sets::lanes_from(first, d.count);
             sets::is_in(d.firsts, first) & ((end <= 8) & (set == all))
         }
     }
 }
 
 // Whether a set is the whole path of an AppSel and a DataPathID.
-pub fn is_whole(image: &[u8], app: u8, id: u8, set: u8) -> bool
+fn is_whole(image: &[u8], app: u8, id: u8, set: u8) -> bool
     requires { ⌜ (length (now image) ≡ 768) × (app < 16) × (id < 8) ⌝ }
     ensures { λ r. ⌜ r ≡ fills (applicationIn (applicationsOf (now (image .entry))) app) id set ⌝ }
 {
@@ -107,10 +90,5 @@ pub fn agree_on_state(image: &[u8], set: u8, lane: u8) -> bool
     ensures { λ r. ⌜ r ≡ agreeOnState (statesOf (now (image .entry))) set lane ⌝ }
 {
     let own = lanes::nibble(image, map::STATES, lane);
-    let mut all = true;
-    for other in 0..8u8 {
-        let state = lanes::nibble(image, map::STATES, other);
-        all = all & (!sets::is_in(set, other) | (state == own));
-    }
-    all
+    sets::lies_in(set, paths::lanes_in_state(image, own))
 }

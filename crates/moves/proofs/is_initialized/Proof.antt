@@ -1,5 +1,5 @@
 -- `moves::is_initialized` meets its contract. Assumes nothing.
-use Rattle.paths.proofs.Turns.{and-pick}
+use Rattle.bits.proofs.Tests.{and-pick}
 use Rattle.model.specs.Hardware.{initialized, isState}
 use borrow.Author.Needs.{needs}
 use Rattle.moves.proofs.is_initialized.Statement.{statement}

@@ -12,7 +12,8 @@ use Rattle.model.specs.Lanes.{stageAt, heldIn}
 use Rattle.model.specs.View.{settingsAt}
 use Rattle.model.specs.Work.{written}
 use Rattle.model.specs.Sound.{sameSettings}
-use Rattle.stages.proofs.Turns.{or-implies, all-begin, every-turn}
+use Rattle.bits.proofs.Turns.{all-begin, every-turn}
+use Rattle.bits.proofs.Tests.{or-implies}
 use Rattle.passing.proofs.Groups.{copied-by}
 use Rattle.passing.proofs.holds_copied.Statement.{statement}
 use Rattle.passing.proofs.holds_copied.Tie as tie

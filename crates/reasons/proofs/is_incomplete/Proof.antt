@@ -1,58 +1,21 @@
 -- `reasons::is_incomplete` meets its contract. Assumes nothing.
 use borrow.Author.Needs.{needs}
-use mathlib.Core.Path.{_≡_, ap, ap₂, _∙_}
-use mathlib.Core.Bool.{not}
+use mathlib.Core.Path.{sym, ap₂, _∙_}
 use native.Mathlib.Omega.{arith}
-use Prim.Native.Nat.{_≤_, _-_}
-use Rattle.bits.specs.Loop.{anyBelow}
 use Rattle.bits.specs.Choice.{both}
-use Rattle.bits.specs.Sets.{has}
-use Rattle.bits.proofs.Tests.{and-both}
-use Rattle.model.specs.View.{within}
+use Rattle.bits.proofs.Loops.{any-ext}
+use Rattle.bits.proofs.Sets.{in-set, has-rest}
+use Rattle.model.specs.Map.{laneCount}
+use Rattle.model.specs.Groups.{someIn}
 use Rattle.model.specs.Verdicts.{incomplete}
-use Rattle.paths.proofs.Turns.{any-begin, any-turn}
 use Rattle.reasons.proofs.is_incomplete.Statement.{statement}
 use Rattle.reasons.proofs.is_incomplete.Tie as tie
 
-abbrev Inv-loop : tie.InvT-loop
-Inv-loop first group count missing₀ lane₀ missing lane = (lane ≤ 8) × (missing ≡ anyBelow lane (λ m. both (within first count m) (not (has group m))))
-
-abbrev μ-loop : tie.MeasureT-loop
-μ-loop first group count missing₀ lane₀ missing lane = 8 - lane
-
-loop-holds : tie.Need-loop-holds Inv-loop μ-loop
-loop-holds c = (search needs, any-begin _)
-
-is-within-requires : tie.Need-is-within-requires Inv-loop μ-loop
-is-within-requires c κs = search needs
-
-is-in-requires : tie.Need-is-in-requires Inv-loop μ-loop
-is-in-requires c κs = search needs
-
-add-lane : tie.Need-add-lane Inv-loop μ-loop
-add-lane c = search needs
-
-loop-less : tie.Need-loop-less Inv-loop μ-loop
-loop-less c = search needs
-
-loop-again : tie.Need-loop-again Inv-loop μ-loop
-loop-again c =
-    (search needs, any-turn _ _ _ _ (c .before .before .before .loop .inv .1) (and-both _ _ ∙ ap₂ both (c .before .is-within .ensures) (ap not (c .is-in .ensures))))
-
-returns : tie.Need-returns Inv-loop μ-loop
-unfolding incomplete
-returns c = let e : c .before .loop .lane ≡ 8 = omega arith in rw e at (c .before .loop .inv .1)
+returns : tie.Need-returns
+unfolding incomplete someIn
+returns c =
+    c .meets .ensures
+    ∙ any-ext laneCount _ _ (λ m h. ap₂ both (in-set laneCount _ (c .before .lanes-from .ensures) m h) (has-rest laneCount _ m (omega arith) h))
 
 pub is-incomplete-spec : {M : Type 1} → statement M
-is-incomplete-spec =
-    tie.close
-    (tie.spec
-    Inv-loop
-    μ-loop
-    loop-holds
-    is-within-requires
-    is-in-requires
-    add-lane
-    loop-less
-    loop-again
-    returns)
+is-incomplete-spec = tie.close (tie.spec (λ c κs. search needs) (λ c κs. search needs) returns)

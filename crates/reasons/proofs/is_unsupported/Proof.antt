@@ -9,7 +9,7 @@ use Rattle.bits.specs.Sets.{has}
 use Rattle.model.specs.View.{of, limitsOf, settingsOf, viewOf}
 use Rattle.model.specs.Groups.{someIn}
 use Rattle.model.specs.Verdicts.{outOfLimits, unsupported}
-use Rattle.paths.proofs.Turns.{any-begin, any-turn}
+use Rattle.bits.proofs.Turns.{any-begin, any-turn}
 use Rattle.reasons.proofs.is_unsupported.Statement.{statement}
 use Rattle.reasons.proofs.is_unsupported.Tie as tie
 

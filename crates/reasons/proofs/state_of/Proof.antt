@@ -1,6 +1,6 @@
 -- `reasons::state_of` meets its contract. Assumes nothing.
 use mathlib.Core.Path.{sym, _∙_}
-use Rattle.reasons.proofs.Laws.{state-at, state-past}
+use Rattle.paths.proofs.Lanes.{state-at, state-past}
 use borrow.Author.Needs.{needs}
 use Rattle.reasons.proofs.state_of.Statement.{statement}
 use Rattle.reasons.proofs.state_of.Tie as tie

@@ -4,7 +4,7 @@ use Rattle.bits.specs.Choice.{both}
 use Rattle.bits.proofs.Loops.{any-ext}
 use Rattle.model.specs.Groups.{someIn}
 use Rattle.model.specs.Hardware.{someBit}
-use Rattle.paths.proofs.Sets.{bit-has}
+use Rattle.bits.proofs.Sets.{bit-has}
 use borrow.Author.Needs.{needs}
 use Rattle.signals.proofs.some_bit.Statement.{statement}
 use Rattle.signals.proofs.some_bit.Tie as tie

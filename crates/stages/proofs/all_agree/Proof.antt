@@ -9,7 +9,7 @@ use Rattle.bits.specs.Sets.{has}
 use Rattle.model.specs.Lanes.{stageAt}
 use Rattle.model.specs.Groups.{everyIn}
 use Rattle.model.specs.Sound.{agrees}
-use Rattle.stages.proofs.Turns.{all-begin, every-turn}
+use Rattle.bits.proofs.Turns.{all-begin, every-turn}
 use Rattle.stages.proofs.all_agree.Statement.{statement}
 use Rattle.stages.proofs.all_agree.Tie as tie
 

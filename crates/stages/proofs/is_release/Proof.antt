@@ -11,7 +11,7 @@ use Rattle.model.specs.Lanes.{stageAt, heldIn}
 use Rattle.model.specs.View.{isUsed}
 use Rattle.model.specs.Groups.{someIn}
 use Rattle.model.specs.Work.{isRelease}
-use Rattle.paths.proofs.Turns.{any-begin, some-turn}
+use Rattle.bits.proofs.Turns.{any-begin, some-turn}
 use Rattle.stages.proofs.is_release.Statement.{statement}
 use Rattle.stages.proofs.is_release.Tie as tie
 

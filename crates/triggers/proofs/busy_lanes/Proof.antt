@@ -5,7 +5,7 @@ use native.Mathlib.Omega.{arith}
 use Prim.Native.Nat.{_≤_, _-_}
 use Rattle.bits.specs.Sets.{maskOf}
 use Rattle.model.specs.Lanes.{stageAt, isInProgress}
-use Rattle.paths.proofs.Turns.{mask-begin, mask-turn}
+use Rattle.bits.proofs.Turns.{mask-begin, mask-turn}
 use Rattle.triggers.proofs.busy_lanes.Statement.{statement}
 use Rattle.triggers.proofs.busy_lanes.Tie as tie
 

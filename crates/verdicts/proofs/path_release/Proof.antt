@@ -2,7 +2,7 @@
 use Rattle.bits.specs.Choice.{pick}
 use Rattle.model.specs.View.{viewOf}
 use Rattle.model.specs.Verdicts.{pathRelease}
-use Rattle.reasons.proofs.Laws.{state-at}
+use Rattle.paths.proofs.Lanes.{state-at}
 use borrow.Author.Needs.{needs}
 use Rattle.verdicts.proofs.path_release.Statement.{statement}
 use Rattle.verdicts.proofs.path_release.Tie as tie

@@ -3,7 +3,8 @@ use mathlib.Core.Path.{sym, _∙_}
 use Rattle.bits.specs.Choice.{pick}
 use Rattle.model.specs.View.{viewOf}
 use Rattle.model.specs.Verdicts.{verdictOf}
-use Rattle.verdicts.proofs.Laws.{id-lt, app-lt, verdict-none, release-any-set}
+use Rattle.paths.proofs.Lanes.{id-lt, app-lt}
+use Rattle.verdicts.proofs.Laws.{verdict-none, release-any-set}
 use borrow.Author.Needs.{needs}
 use Rattle.verdicts.proofs.verdict_of.Statement.{statement}
 use Rattle.verdicts.proofs.verdict_of.Tie as tie

@@ -1,6 +1,7 @@
 -- `whole_paths::active_path` meets its contract. Assumes nothing.
 use borrow.Author.Needs.{needs}
-use Rattle.whole_paths.proofs.Wholes.{app-lt, id-lt, path-by}
+use Rattle.paths.proofs.Lanes.{app-lt, id-lt}
+use Rattle.whole_paths.proofs.Wholes.{path-by}
 use Rattle.whole_paths.proofs.active_path.Statement.{statement}
 use Rattle.whole_paths.proofs.active_path.Tie as tie
 

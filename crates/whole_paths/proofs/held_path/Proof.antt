@@ -3,7 +3,8 @@ use borrow.Author.Needs.{needs}
 use mathlib.Core.Path.{ap, sym, _∙_}
 use Rattle.model.specs.View.{appSel, pathId}
 use Rattle.whole_paths.proofs.Lanes.{held-of}
-use Rattle.whole_paths.proofs.Wholes.{app-lt, id-lt, path-by}
+use Rattle.paths.proofs.Lanes.{app-lt, id-lt}
+use Rattle.whole_paths.proofs.Wholes.{path-by}
 use Rattle.whole_paths.proofs.held_path.Statement.{statement}
 use Rattle.whole_paths.proofs.held_path.Tie as tie
 

@@ -1,0 +1,2 @@
+-- What the crate's proof cites.
+pub mod Laws

@@ -1,0 +1,14 @@
+-- `sets::lies_in` meets its contract. Assumes nothing.
+use native.Mathlib.Omega.{arith}
+use Rattle.bits.proofs.Sets.{lies-in}
+use Rattle.model.specs.Map.{laneCount}
+use Rattle.model.specs.Groups.{everyIn}
+use Rattle.sets.proofs.lies_in.Statement.{statement}
+use Rattle.sets.proofs.lies_in.Tie as tie
+
+returns : tie.Need-returns
+unfolding everyIn
+returns c = lies-in laneCount _ _ (omega arith) (omega arith)
+
+pub lies-in-spec : {M : Type 1} → statement M
+lies-in-spec = tie.close (tie.spec returns)
