@@ -99,7 +99,7 @@ pub fn close_pass(image: &mut [u8], w: Working, group: u8, trigger: Trigger) -> 
     requires { ⌜ length (now image) ≡ 768 ⌝ }
     ensures { λ r. ⌜ Leaves (closedPass early (state (now (image .entry)) w) group trigger) (now (image .exit)) r ⌝ }
 {
-    let release = stages::is_release(w, group);
+    let release = records::is_release(w, group);
     let mask = commission_mask(image, release, trigger, group);
     set_pending(image, release, trigger, group);
     let working = close(image, w, group, Status::SUCCESS);

@@ -19,7 +19,7 @@ use Rattle.model.specs.Groups.{someIn, everyIn}
 use Rattle.model.specs.Work.{isRelease, written}
 use Rattle.model.specs.Sound.{makePath, agreeOnState, heldsOf, hasPurpose, rests, notCopied, restIsWhole, sameSettings, holdsCopied}
 use Rattle.model.specs.declared.lane.Working.{Working}
-use Rattle.stages.proofs.Turns.{or-implies}
+use Rattle.records.proofs.Turns.{or-implies}
 use Rattle.passing.proofs.Choices.{both-assoc, both-false}
 use Rattle.whole_paths.proofs.Lanes.{states-of, states-past}
 use Rattle.whole_paths.proofs.Wholes.{path-of-mask}

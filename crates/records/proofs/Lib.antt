@@ -1,2 +1,3 @@
--- A loop over the records.
+-- A loop over the records, and the turns of a loop that tests every lane.
 pub mod Stages
+pub mod Turns

@@ -12,7 +12,7 @@ use Rattle.model.specs.Lanes.{stageAt, heldIn}
 use Rattle.model.specs.View.{settingsAt}
 use Rattle.model.specs.Work.{written}
 use Rattle.model.specs.Sound.{sameSettings}
-use Rattle.stages.proofs.Turns.{or-implies, all-begin, every-turn}
+use Rattle.records.proofs.Turns.{or-implies, all-begin, every-turn}
 use Rattle.passing.proofs.Groups.{copied-by}
 use Rattle.passing.proofs.holds_copied.Statement.{statement}
 use Rattle.passing.proofs.holds_copied.Tie as tie

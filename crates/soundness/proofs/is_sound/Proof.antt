@@ -6,7 +6,7 @@ use Rattle.bits.specs.Loop.{allBelow}
 use Rattle.model.specs.Map.{stagedSet0}
 use Rattle.model.specs.View.{viewOf}
 use Rattle.model.specs.Sound.{laneSound, isSound}
-use Rattle.stages.proofs.Turns.{all-begin, all-turn}
+use Rattle.records.proofs.Turns.{all-begin, all-turn}
 use native.Mathlib.Omega.{arith}
 use Rattle.soundness.proofs.is_sound.Statement.{statement}
 use Rattle.soundness.proofs.is_sound.Tie as tie

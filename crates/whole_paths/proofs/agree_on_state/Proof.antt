@@ -9,7 +9,7 @@ use Rattle.bits.specs.Loop.{allBelow}
 use Rattle.bits.specs.Place.{get}
 use Rattle.bits.specs.Sets.{has}
 use Rattle.model.specs.Map.{stateAt}
-use Rattle.stages.proofs.Turns.{all-begin, every-turn}
+use Rattle.records.proofs.Turns.{all-begin, every-turn}
 use Rattle.whole_paths.proofs.Lanes.{agree-by}
 use Rattle.whole_paths.proofs.agree_on_state.Statement.{statement}
 use Rattle.whole_paths.proofs.agree_on_state.Tie as tie

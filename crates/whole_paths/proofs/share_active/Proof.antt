@@ -9,7 +9,7 @@ use Rattle.bits.specs.Sets.{has}
 use Rattle.bits.proofs.Tests.{and-both}
 use Rattle.model.specs.Map.{activeSet}
 use Rattle.model.specs.View.{appSel, pathId, of, settingsOf}
-use Rattle.stages.proofs.Turns.{all-begin, every-turn}
+use Rattle.records.proofs.Turns.{all-begin, every-turn}
 use Rattle.whole_paths.proofs.Wholes.{share-active-by}
 use native.Mathlib.Omega.{arith}
 use Rattle.whole_paths.proofs.share_active.Statement.{statement}

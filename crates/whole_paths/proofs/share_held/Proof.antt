@@ -9,7 +9,7 @@ use Rattle.bits.specs.Sets.{has}
 use Rattle.bits.proofs.Tests.{and-both}
 use Rattle.model.specs.Lanes.{stageAt, heldIn}
 use Rattle.model.specs.View.{appSel, pathId}
-use Rattle.stages.proofs.Turns.{all-begin, every-turn}
+use Rattle.records.proofs.Turns.{all-begin, every-turn}
 use Rattle.whole_paths.proofs.Wholes.{share-held-by}
 use native.Mathlib.Omega.{arith}
 use Rattle.whole_paths.proofs.share_held.Statement.{statement}

@@ -1,0 +1,2 @@
+-- What the crate's proofs cite, and those of the crates above it.
+pub mod Fits
