@@ -144,8 +144,8 @@ pub fn freed(w: Working, group: u8) -> Working
         if sets::is_in(group, lane) {
             let i = lane as usize;
             let own = next.lanes[i];
-            let after = with_stage(own, Stage::Idle);
-            next.lanes[i] = after;
+            let idle = with_stage(own, Stage::Idle);
+            next.lanes[i] = idle;
         }
     }
     next
