@@ -10,9 +10,10 @@ use Rattle.model.specs.declared.lane.Working.{Working}
 use Rattle.model.specs.Outcome.{LeavesState, state}
 use Rattle.closing.specs.Leaves.{Leaves}
 
--- closing: the release decides the mask and the pending bits, then the group is closed
-pub closed-by : (x : Image) (w : Working) (g : ℕ) (t : Trigger) {y z : Image} {v : Working} {mask : ℕ} {release : Bool} → release ≡ isRelease w g
-    → mask ≡ commissionMask release t x g → y ≡ pendingAfter release t g x → LeavesState (closed y w g success) z v
+-- closing: the release decides the mask and the pending bits, then the group is closed with success
+pub closed-by : (x : Image) (w : Working) (g : ℕ) (t : Trigger) {y z : Image} {v : Working} {mask code : ℕ} {release : Bool} → release ≡ isRelease w g
+    → mask ≡ commissionMask release t x g → y ≡ pendingAfter release t g x → code ≡ success → LeavesState (closed y w g code) z v
     → Leaves (closedPass early (state x w) g t) z (record { mask = mask; working = v })
 unfolding closedPass copyGroup
-closed-by x w g t r m p l = record { image = rw (← r, ← p) (l .image); working = rw (← r, ← p) (l .working); mask = rw (← r) m }
+closed-by x w g t r m p s l =
+    record { image = rw (← r, ← p, ← s) (l .image); working = rw (← r, ← p, ← s) (l .working); mask = rw (← r) m }

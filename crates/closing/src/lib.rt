@@ -2,6 +2,7 @@
 ghost use mathlib.Core.Path.{_≡_};
 ghost use mathlib.Core.Bool.{false};
 ghost use lib.ListN.{length};
+ghost use Rattle.model.specs.Map.{imageLength};
 ghost use Rattle.model.specs.PathStates.{commissioned};
 ghost use Rattle.model.specs.Work.{early, pendingAfter, commissionMask, closed, closedPass};
 ghost use Rattle.model.specs.declared.lane.Trigger.the-variants.{Immediate};
@@ -21,7 +22,7 @@ pub struct Worked {
 
 // DPInitPending as a closing pass that is no release leaves it: ApplyDPInit sets it, ApplyImmediate leaves it.
 fn put_pending(image: &mut [u8], trigger: Trigger, group: u8)
-    requires { ⌜ length (now image) ≡ 768 ⌝ }
+    requires { ⌜ length (now image) ≡ imageLength ⌝ }
     ensures { λ _. ⌜ now (image .exit) ≡ pendingAfter false trigger group (now (image .entry)) ⌝ }
 {
     match trigger {
@@ -32,7 +33,7 @@ fn put_pending(image: &mut [u8], trigger: Trigger, group: u8)
 
 // DPInitPending as a closing pass leaves it.
 fn set_pending(image: &mut [u8], release: bool, trigger: Trigger, group: u8)
-    requires { ⌜ length (now image) ≡ 768 ⌝ }
+    requires { ⌜ length (now image) ≡ imageLength ⌝ }
     ensures { λ _. ⌜ now (image .exit) ≡ pendingAfter release trigger group (now (image .entry)) ⌝ }
 {
     if release {
@@ -60,7 +61,7 @@ fn is_commissioned(state: PathState) -> bool
 
 // The lanes that an ApplyImmediate, no release, commissions: the group, by the state of its first lane.
 fn immediate_mask(image: &[u8], group: u8) -> u8
-    requires { ⌜ length (now image) ≡ 768 ⌝ }
+    requires { ⌜ length (now image) ≡ imageLength ⌝ }
     ensures { λ r. ⌜ r ≡ commissionMask false Immediate (now (image .entry)) group ⌝ }
 {
     let first = sets::next_in(group, 0);
@@ -73,7 +74,7 @@ fn immediate_mask(image: &[u8], group: u8) -> u8
 
 // The lanes that a closing pass commissions.
 fn commission_mask(image: &[u8], release: bool, trigger: Trigger, group: u8) -> u8
-    requires { ⌜ length (now image) ≡ 768 ⌝ }
+    requires { ⌜ length (now image) ≡ imageLength ⌝ }
     ensures { λ r. ⌜ r ≡ commissionMask release trigger (now (image .entry)) group ⌝ }
 {
     if release {
@@ -86,22 +87,22 @@ fn commission_mask(image: &[u8], release: bool, trigger: Trigger, group: u8) -> 
 }
 
 // The group closes with a status.
-pub fn close(image: &mut [u8], w: Working, group: u8, code: u8) -> Working
-    requires { ⌜ length (now image) ≡ 768 ⌝ }
-    ensures { λ r. ⌜ LeavesState (closed (now (image .entry)) w group code) (now (image .exit)) r ⌝ }
+pub fn close(image: &mut [u8], w: Working, group: u8, status: Status) -> Working
+    requires { ⌜ length (now image) ≡ imageLength ⌝ }
+    ensures { λ r. ⌜ LeavesState (closed (now (image .entry)) w group (status .code)) (now (image .exit)) r ⌝ }
 {
-    lanes::put_each(image, map::STATUSES, 4, group, code);
+    lanes::put_each(image, map::STATUSES, 4, group, status.code);
     records::freed(w, group)
 }
 
 // The closing step of a pass. The state decides before the pending bits change.
 pub fn close_pass(image: &mut [u8], w: Working, group: u8, trigger: Trigger) -> Worked
-    requires { ⌜ length (now image) ≡ 768 ⌝ }
+    requires { ⌜ length (now image) ≡ imageLength ⌝ }
     ensures { λ r. ⌜ Leaves (closedPass early (state (now (image .entry)) w) group trigger) (now (image .exit)) r ⌝ }
 {
-    let release = stages::is_release(w, group);
+    let release = records::is_release(w, group);
     let mask = commission_mask(image, release, trigger, group);
     set_pending(image, release, trigger, group);
-    let working = close(image, w, group, Status::SUCCESS);
+    let working = close(image, w, group, Status::success());
     Worked { mask, working }
 }

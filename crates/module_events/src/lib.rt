@@ -22,7 +22,7 @@ pub fn work(image: &mut [u8], w: Working, lane: u8) -> Left
     if LaneRecord::COUNT <= lane {
         return replies::reply(Answer::NoSuchPlace, w);
     }
-    if !stages::is_in_progress(stages::stage_at(w, lane)) {
+    if !records::is_in_progress(records::stage_at(w, lane)) {
         return replies::reply(Answer::IdleLane, w);
     }
     let worked = work::work(image, w, lane);
@@ -41,8 +41,8 @@ fn is_busy(image: &[u8], w: Working, lane: u8) -> bool
     ensures { λ r. ⌜ r ≡ isBusy (state (now (image .entry)) w) lane ⌝ }
 {
     let path = paths::path_of(image, lane);
-    let busy = triggers::busy_lanes(w);
-    stages::is_in_progress(stages::stage_at(w, lane)) | sets::meets(path, busy)
+    let busy = records::busy_lanes(w);
+    records::is_in_progress(records::stage_at(w, lane)) | sets::meets(path, busy)
 }
 
 // A hardware event on the path of a lane.

@@ -8,7 +8,7 @@ use Rattle.bits.proofs.Tests.{and-both}
 use Rattle.model.specs.View.{settingValues}
 use Rattle.model.specs.Sound.{sameSettings}
 use Rattle.model.specs.declared.lane.Settings.{Settings}
-use Rattle.stages.proofs.Fits.{and-seven}
+use Rattle.sound_groups.proofs.Fits.{and-seven}
 
 pub both-assoc : (a b c : Bool) → both a (both b c) ≡ both (both a b) c
 unfolding both

@@ -22,7 +22,7 @@ fn has_purpose(image: &[u8], w: Working, group: u8) -> bool
     requires { ⌜ length (now image) ≡ 768 ⌝ }
     ensures { λ r. ⌜ r ≡ hasPurpose (viewOf stagedSet0 (now (image .entry))) w group ⌝ }
 {
-    if stages::is_release(w, group) {
+    if records::is_release(w, group) {
         return true;
     }
     let first = sets::next_in(group, 0);
@@ -40,7 +40,7 @@ fn rests(image: &[u8], w: Working, group: u8) -> bool
     }
     let state = lanes::nibble(image, map::STATES, first);
     let resting = paths::is_resting(PathState::of(state));
-    let released = !stages::is_release(w, group) | (state == PathState::DEACTIVATED);
+    let released = !records::is_release(w, group) | (state == PathState::DEACTIVATED);
     whole_paths::agree_on_state(image, group, first) & (resting & released)
 }
 
@@ -64,7 +64,7 @@ fn is_copied(image: &[u8], w: Working, lane: u8) -> bool
     ensures { λ r. ⌜ r ≡ sameSettings (settingsAt activeSet (now (image .entry)) lane) (written (heldIn (stageAt w lane))) ⌝ }
 {
     let active = settings::settings_at(image, ACTIVE_SET, lane);
-    let held = stages::held_at(w, lane);
+    let held = records::held_at(w, lane);
     same_settings(active, settings::written(held))
 }
 

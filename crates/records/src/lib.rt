@@ -1,12 +1,139 @@
-// The lanes' records as a step leaves them: the group's idle again, or with the lane that comes next.
+// The lanes' records: everything that looks into one or replaces one.
 ghost use mathlib.Core.Path.{_≡_};
-ghost use Rattle.model.specs.Lanes.{withStage, withVerdict, freed, advanced};
-ghost use Rattle.model.specs.declared.lane.Verdict.the-variants.{Pass};
+ghost use Prim.Native.Nat.{_<_};
+ghost use Rattle.bits.specs.Sets.{maskOf};
+ghost use Rattle.model.specs.Map.{laneCount};
+ghost use Rattle.model.specs.Lanes.{stageAt, isInProgress, isPass, isPassing, heldIn, withStage, withVerdict, freed, advanced};
+ghost use Rattle.model.specs.Work.{isRelease};
 use model::lane::LaneRecord;
 use model::lane::Progress;
+use model::lane::Settings;
 use model::lane::Stage;
 use model::lane::Verdict;
 use model::lane::Working;
+
+// The stage of a lane.
+pub fn stage_at(w: Working, lane: u8) -> Stage
+    requires { ⌜ lane < laneCount ⌝ }
+    ensures { λ r. ⌜ r ≡ stageAt w lane ⌝ }
+{
+    let i = lane as usize;
+    let record = w.lanes[i];
+    let stage = record.stage;
+    stage
+}
+
+// Whether an Apply is under way.
+pub fn is_in_progress(stage: Stage) -> bool
+    ensures { λ r. ⌜ r ≡ isInProgress stage ⌝ }
+{
+    match stage {
+        Stage::Idle => false,
+        Stage::InProgress(_) => true,
+    }
+}
+
+// The lanes in progress.
+pub fn busy_lanes(w: Working) -> u8
+    ensures { λ r. ⌜ r ≡ maskOf laneCount (λ l. isInProgress (stageAt w l)) ⌝ }
+{
+    let mut busy: u8 = 0;
+    for lane in 0..LaneRecord::COUNT {
+        let yes = is_in_progress(stage_at(w, lane));
+        busy = sets::with_lane(busy, lane, yes);
+    }
+    busy
+}
+
+fn is_pass(verdict: Verdict) -> bool
+    ensures { λ r. ⌜ r ≡ isPass verdict ⌝ }
+{
+    match verdict {
+        Verdict::Pass(_) => true,
+        Verdict::Reject(_) => false,
+    }
+}
+
+// Whether the lane belongs to a passing group.
+pub fn is_passing(stage: Stage) -> bool
+    ensures { λ r. ⌜ r ≡ isPassing stage ⌝ }
+{
+    match stage {
+        Stage::Idle => false,
+        Stage::InProgress(p) => {
+            let verdict = p.verdict;
+            is_pass(verdict)
+        }
+    }
+}
+
+// The settings that a stage holds; an idle one holds zeros.
+pub fn held_in(stage: Stage) -> Settings
+    ensures { λ r. ⌜ r ≡ heldIn stage ⌝ }
+{
+    match stage {
+        Stage::Idle => Settings {
+            config: 0,
+            adaptive: 0,
+            equalizer: 0,
+            cdr_tx: 0,
+            cdr_rx: 0,
+            pre: 0,
+            post: 0,
+            amplitude: 0,
+        },
+        Stage::InProgress(p) => {
+            let held = p.held;
+            held
+        }
+    }
+}
+
+// The settings that a lane's record holds.
+pub fn held_at(w: Working, lane: u8) -> Settings
+    requires { ⌜ lane < laneCount ⌝ }
+    ensures { λ r. ⌜ r ≡ heldIn (stageAt w lane) ⌝ }
+{
+    held_in(stage_at(w, lane))
+}
+
+// A release: no lane of the group holds an AppSel.
+pub fn is_release(w: Working, group: u8) -> bool
+    ensures { λ r. ⌜ r ≡ isRelease w group ⌝ }
+{
+    let mut used = false;
+    for lane in 0..LaneRecord::COUNT {
+        let held = held_at(w, lane);
+        used = used | (sets::is_in(group, lane) & settings::is_used(held));
+    }
+    !used
+}
+
+// The record with another stage, and nothing else of it changed: the one place that replaces a stage.
+pub fn with_stage(r: LaneRecord, stage: Stage) -> LaneRecord
+    ensures { λ q. ⌜ q ≡ withStage r stage ⌝ }
+{
+    LaneRecord { stage }
+}
+
+// The stage with another verdict; an idle one stays.
+fn with_verdict(stage: Stage, verdict: Verdict) -> Stage
+    ensures { λ r. ⌜ r ≡ withVerdict stage verdict ⌝ }
+{
+    match stage {
+        Stage::Idle => stage,
+        Stage::InProgress(p) => {
+            let held = p.held;
+            let trigger = p.trigger;
+            Stage::InProgress(Progress {
+                group: p.group,
+                held,
+                trigger,
+                verdict,
+            })
+        }
+    }
+}
 
 // The group's lanes idle again.
 pub fn freed(w: Working, group: u8) -> Working
@@ -16,32 +143,12 @@ pub fn freed(w: Working, group: u8) -> Working
     for lane in 0..LaneRecord::COUNT {
         if sets::is_in(group, lane) {
             let i = lane as usize;
-            next.lanes[i] = LaneRecord { stage: Stage::Idle };
+            let own = next.lanes[i];
+            let idle = with_stage(own, Stage::Idle);
+            next.lanes[i] = idle;
         }
     }
     next
-}
-
-// The record with its verdict a pass whose next lane is n; an idle one stays.
-fn advanced_record(r: LaneRecord, n: u8) -> LaneRecord
-    ensures { λ q. ⌜ q ≡ withStage r (withVerdict (r .stage) (Pass n)) ⌝ }
-{
-    let stage = r.stage;
-    match stage {
-        Stage::Idle => r,
-        Stage::InProgress(p) => {
-            let held = p.held;
-            let trigger = p.trigger;
-            LaneRecord {
-                stage: Stage::InProgress(Progress {
-                    group: p.group,
-                    held,
-                    trigger,
-                    verdict: Verdict::Pass(n),
-                }),
-            }
-        }
-    }
 }
 
 // The group's next lane is n.
@@ -52,8 +159,9 @@ pub fn advanced(w: Working, group: u8, n: u8) -> Working
     for lane in 0..LaneRecord::COUNT {
         if sets::is_in(group, lane) {
             let i = lane as usize;
-            let before = next.lanes[i];
-            let after = advanced_record(before, n);
+            let own = next.lanes[i];
+            let stage = own.stage;
+            let after = with_stage(own, with_verdict(stage, Verdict::Pass(n)));
             next.lanes[i] = after;
         }
     }

@@ -17,7 +17,7 @@ fn status_tells(image: &[u8], w: Working, lane: u8) -> bool
     ensures { λ r. ⌜ r ≡ statusTells (now (image .entry)) w lane ⌝ }
 {
     let told = lanes::nibble(image, map::STATUSES, lane) == Status::IN_PROGRESS;
-    let kept = stages::is_in_progress(stages::stage_at(w, lane));
+    let kept = records::is_in_progress(records::stage_at(w, lane));
     (told & kept) | (!told & !kept)
 }
 
@@ -60,9 +60,9 @@ fn is_lane_sound(image: &[u8], w: Working, lane: u8) -> bool
     requires { ⌜ (length (now image) ≡ 768) × (lane < 8) ⌝ }
     ensures { λ r. ⌜ r ≡ laneSound (now (image .entry)) (viewOf stagedSet0 (now (image .entry))) w lane ⌝ }
 {
-    let stage = stages::stage_at(w, lane);
-    let told = status_tells(image, w, lane) & stages::stage_fits(w, lane, stage);
-    let outside = stages::is_passing(stage) | outside_passing(image, lane);
+    let stage = records::stage_at(w, lane);
+    let told = status_tells(image, w, lane) & sound_groups::stage_fits(w, lane, stage);
+    let outside = records::is_passing(stage) | outside_passing(image, lane);
     told & (outside & passing::group_fits(image, w, stage))
 }
 

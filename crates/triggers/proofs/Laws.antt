@@ -5,22 +5,23 @@ use Prim.Native.Nat.{ℕ, _+_, _<_}
 use native.Mathlib.Numerals.{add-one}
 use native.Mathlib.Omega.{arith}
 use mir.Val.{boolByte}
-use lib.ListN.{length, set}
+use lib.ListN.{length, getD, set}
 use Rattle.bits.specs.Choice.{pick, both}
-use Rattle.bits.specs.Lane.{laneField}
-use Rattle.bits.specs.Loop.{each, tab, seek}
+use Rattle.bits.specs.Loop.{each, seek}
 use Rattle.bits.specs.Number.{field, withField}
 use Rattle.bits.specs.Place.{put}
 use Rattle.bits.specs.Sets.{has, maskOf, nextIn}
-use Rattle.bits.proofs.Tests.{split, pick-true, pick-false}
+use Rattle.bits.proofs.Tests.{pick-true, pick-false}
 use Rattle.bits.proofs.Number.{back, field-past}
 use Rattle.bits.proofs.Masks.{mask-lt, has-mask}
-use Rattle.bits.proofs.Loops.{each-begin, each-ext, each-turn, each-pass, set-loop, tab-ext, any-ext}
+use Rattle.bits.proofs.Loops.{each-begin, each-ext, each-turn, each-pass, any-ext}
 use Rattle.bits.proofs.Turns.{mask-begin, mask-turn}
 use Rattle.verdicts.proofs.Laws.{verdict-none}
 use Rattle.settings.proofs.View.{settings-of}
-use Rattle.model.specs.Map.{Image}
-use Rattle.model.specs.Lanes.{idleRecord, recordAt, stageAt, isInProgress, anyInProgress, withStage, withStages}
+use Rattle.records.proofs.Stages.{stages-loop}
+use Rattle.model.specs.Map.{Image, laneCount, statusAt}
+use Rattle.model.specs.Statuses.{inProgress}
+use Rattle.model.specs.Lanes.{idleRecord, stageAt, isInProgress, anyInProgress, withStage}
 use Rattle.model.specs.View.{View, settingsAt, viewOf}
 use Rattle.model.specs.Groups.{groupOf, firstIn, someIn}
 use Rattle.model.specs.Verdicts.{verdictOf}
@@ -30,6 +31,7 @@ use Rattle.model.specs.declared.lane.LaneRecord.{LaneRecord}
 use Rattle.model.specs.declared.lane.Trigger.{Trigger}
 use Rattle.model.specs.declared.lane.Verdict.{Verdict}
 use Rattle.model.specs.declared.lane.Verdict.the-variants.{Pass}
+use Rattle.model.specs.declared.lane.Stage.{Stage}
 use Rattle.model.specs.declared.lane.Stage.the-variants.{InProgress}
 use Rattle.model.specs.declared.lane.Working.{Working}
 use Rattle.triggers.specs.declared.Marking.{Marking}
@@ -77,21 +79,20 @@ module _ (t : Trigger) (base : ℕ) (x : Image) (w : Working) (selected n : ℕ)
         marked = h .marked ∙ mask-pass _ n e;
       }
 
-  -- the record that a marked lane is given
-  record-by : (g : ℕ) (d : Verdict) (own : LaneRecord) → n < 8 → g ≡ groupOf (viewOf base x) selected n → d ≡ verdictOf t (viewOf base x) g
-      → own ≡ record { stage = InProgress (record { group = g; held = settingsAt base x n; trigger = t; verdict = d }) }
-      → own ≡ record { stage = markedStage t (viewOf base x) selected n }
+  -- the stage that a marked lane is given
+  stage-by : (g : ℕ) (d : Verdict) (own : Stage) → n < laneCount → g ≡ groupOf (viewOf base x) selected n → d ≡ verdictOf t (viewOf base x) g
+      → own ≡ InProgress (record { group = g; held = settingsAt base x n; trigger = t; verdict = d }) → own ≡ markedStage t (viewOf base x) selected n
   unfolding markedStage viewOf
-  record-by g d own b p q r = rw (r, q, p, settings-of base x n b)
+  stage-by g d own b p q r = rw (r, q, p, settings-of base x n b)
 
-  pub mark-turn : (g : ℕ) (d : Verdict) (own : LaneRecord) (k : ℕ) → n < 8 → isMarked (viewOf base x) w selected n ≡ true
+  pub mark-turn : (g : ℕ) (d : Verdict) (own : Stage) (after : LaneRecord) (k : ℕ) → n < laneCount → isMarked (viewOf base x) w selected n ≡ true
       → Marks t (viewOf base x) w selected n m → g ≡ groupOf (viewOf base x) selected n → d ≡ verdictOf t (viewOf base x) g
-      → own ≡ record { stage = InProgress (record { group = g; held = settingsAt base x n; trigger = t; verdict = d }) }
-      → k ≡ withField (m .marked) n 1 (boolByte true)
-      → Marks t (viewOf base x) w selected (n + 1) (record { working = record { lanes = set (m .working .lanes) n own }; marked = k })
-  mark-turn g d own k b e h p q r s =
+      → own ≡ InProgress (record { group = g; held = settingsAt base x n; trigger = t; verdict = d })
+      → after ≡ withStage (getD (m .working .lanes) n idleRecord) own → k ≡ withField (m .marked) n 1 (boolByte true)
+      → Marks t (viewOf base x) w selected (n + 1) (record { working = record { lanes = set (m .working .lanes) n after }; marked = k })
+  mark-turn g d own after k b e h p q r a s =
       record {
-        lanes = rw (record-by g d own b p q r) (each-turn _ _ n (w .lanes) (m .working .lanes) (h .lanes) e);
+        lanes = rw (a, stage-by g d own b p q r) (each-turn _ _ n (w .lanes) (m .working .lanes) (h .lanes) e);
         marked = mask-turn _ n (m .marked) k true (h .marked) (sym e) s;
       }
 
@@ -102,22 +103,14 @@ module _ (t : Trigger) (base : ℕ) (x : Image) (w : Working) (selected : ℕ) w
   unfolding triggered
   left-alone e = rw (pick-true _ _ e) (record { image = refl; working = refl })
 
-  -- the records, all marked
-  records-by : (rs : _) → length (w .lanes) ≡ 8
-      → rs ≡ each (isMarked (viewOf base x) w selected) (λ l rs. set rs l (record { stage = markedStage t (viewOf base x) selected l })) 8 (w .lanes)
-      → rs ≡ tab 8 (λ l. withStage (recordAt w l) (stageAfter t (viewOf base x) w selected l))
-  unfolding withStage stageAfter pick
-  records-by rs len h =
-      h ∙ set-loop _ _ (w .lanes) 8 idleRecord len
-      ∙ tab-ext 8 _ _ (λ l b. split (isMarked (viewOf base x) w selected l) (λ e. rw (e, pick)) (λ e. rw (e, pick)))
-
-  pub all-marked : (m : Marking) (y : Image) → length (w .lanes) ≡ 8 → isIgnored t x ≡ false → Marks t (viewOf base x) w selected 8 m
-      → y ≡ each (has (m .marked)) (λ l z. put z (laneField 714 4 l) 12) 8 x
+  pub all-marked : (m : Marking) (y : Image) (code : ℕ) → length (w .lanes) ≡ laneCount → isIgnored t x ≡ false
+      → Marks t (viewOf base x) w selected laneCount m → code ≡ inProgress
+      → y ≡ each (has (m .marked)) (λ l z. put z (statusAt l) code) laneCount x
       → LeavesState (triggered t base (state x w) selected) y (m .working)
-  unfolding triggered marked withStatus withStages
-  all-marked m y len e h p =
+  unfolding triggered marked withStatus stageAfter
+  all-marked m y code len e h s p =
       rw (pick-false _ _ e)
       (record {
-        image = p ∙ each-ext _ _ _ _ 8 x (λ l b. rw (h .marked) (has-mask 8 _ l b)) (λ l z b c. refl);
-        working = ap (λ rs. record { lanes = rs }) (records-by (m .working .lanes) len (h .lanes));
+        image = p ∙ each-ext _ _ _ _ laneCount x (λ l b. rw (h .marked) (has-mask laneCount _ l b)) (λ l z b c. rw s);
+        working = stages-loop _ (λ l s. markedStage t (viewOf base x) selected l) w (m .working) len (h .lanes);
       })

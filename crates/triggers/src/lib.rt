@@ -2,8 +2,7 @@
 ghost use mathlib.Core.Path.{_≡_};
 ghost use Prim.Native.Nat.{_+_, _≤_, _<_};
 ghost use lib.ListN.{length};
-ghost use Rattle.bits.specs.Sets.{maskOf};
-ghost use Rattle.model.specs.Lanes.{stageAt, isInProgress};
+ghost use Rattle.model.specs.Map.{imageLength, laneCount};
 ghost use Rattle.model.specs.View.{settingsAt, viewOf};
 ghost use Rattle.model.specs.Verdicts.{verdictOf};
 ghost use Rattle.model.specs.Triggers.{isIgnored, triggered};
@@ -27,24 +26,9 @@ pub struct Marking {
     pub marked: u8,
 }
 
-// The lanes in progress.
-pub fn busy_lanes(w: Working) -> u8
-    ensures { λ r. ⌜ r ≡ maskOf 8 (λ l. isInProgress (stageAt w l)) ⌝ }
-{
-    let mut busy: u8 = 0;
-    for lane in 0..8u8 {
-        let i = lane as usize;
-        let own = w.lanes[i];
-        let stage = own.stage;
-        let yes = stages::is_in_progress(stage);
-        busy = sets::with_lane(busy, lane, yes);
-    }
-    busy
-}
-
 // Whether the module ignores a trigger: ApplyImmediate where it is configured in steps only.
 fn is_ignored(image: &[u8], kind: Trigger) -> bool
-    requires { ⌜ length (now image) ≡ 768 ⌝ }
+    requires { ⌜ length (now image) ≡ imageLength ⌝ }
     ensures { λ r. ⌜ r ≡ isIgnored kind (now (image .entry)) ⌝ }
 {
     match kind {
@@ -62,7 +46,7 @@ fn judge(
     other: u8,
     verdict: Verdict,
 ) -> Verdict
-    requires { ⌜ (length (now image) ≡ 768) × (base + 29 ≤ 768) × (verdict ≡ verdictOf kind (viewOf base (now image)) other) ⌝ }
+    requires { ⌜ (length (now image) ≡ imageLength) × (base + 29 ≤ imageLength) × (verdict ≡ verdictOf kind (viewOf base (now image)) other) ⌝ }
     ensures { λ r. ⌜ r ≡ verdictOf kind (viewOf base (now (image .entry))) group ⌝ }
 {
     if group == other {
@@ -71,48 +55,48 @@ fn judge(
     verdicts::verdict_of(image, base, kind, group)
 }
 
-// The record of a marked lane.
-fn marked_record(
+// The stage of a marked lane.
+fn marked_stage(
     image: &[u8],
     kind: Trigger,
     base: usize,
     lane: u8,
     group: u8,
     verdict: Verdict,
-) -> LaneRecord
-    requires { ⌜ (base + 29 ≤ length (now image)) × (lane < 8) ⌝ }
-    ensures { λ r. ⌜ r ≡ record { stage = InProgress (record { group = group; held = settingsAt base (now (image .entry)) lane; trigger = kind; verdict = verdict }) } ⌝ }
+) -> Stage
+    requires { ⌜ (base + 29 ≤ length (now image)) × (lane < laneCount) ⌝ }
+    ensures { λ r. ⌜ r ≡ InProgress (record { group = group; held = settingsAt base (now (image .entry)) lane; trigger = kind; verdict = verdict }) ⌝ }
 {
     let held = settings::settings_at(image, base, lane);
-    LaneRecord {
-        stage: Stage::InProgress(Progress {
-            group,
-            held,
-            trigger: kind,
-            verdict,
-        }),
-    }
+    Stage::InProgress(Progress {
+        group,
+        held,
+        trigger: kind,
+        verdict,
+    })
 }
 
 // The lanes and their records as the trigger marks them, all from the state before any is marked.
 fn mark(image: &[u8], w: Working, kind: Trigger, base: usize, selected: u8) -> Marking
-    requires { ⌜ (length (now image) ≡ 768) × (base + 29 ≤ 768) ⌝ }
-    ensures { λ r. ⌜ Marks kind (viewOf base (now (image .entry))) w selected 8 r ⌝ }
+    requires { ⌜ (length (now image) ≡ imageLength) × (base + 29 ≤ imageLength) ⌝ }
+    ensures { λ r. ⌜ Marks kind (viewOf base (now (image .entry))) w selected laneCount r ⌝ }
 {
-    let busy = busy_lanes(w);
+    let busy = records::busy_lanes(w);
     let mut working = w;
     let mut marked = 0u8;
     let mut last = 0u8;
     let mut verdict = Verdict::Pass(LaneRecord::COUNT);
-    for lane in 0..8u8 {
+    for lane in 0..LaneRecord::COUNT {
         if sets::is_in(selected, lane) {
             let group = groups::group_of(image, base, selected, lane);
             if !sets::meets(group, busy) {
                 verdict = judge(image, base, kind, group, last, verdict);
                 last = group;
-                let own = marked_record(image, kind, base, lane, group, verdict);
+                let stage = marked_stage(image, kind, base, lane, group, verdict);
                 let i = lane as usize;
-                working.lanes[i] = own;
+                let own = working.lanes[i];
+                let after = records::with_stage(own, stage);
+                working.lanes[i] = after;
                 marked = sets::with_lane(marked, lane, true);
             }
         }
@@ -122,13 +106,14 @@ fn mark(image: &[u8], w: Working, kind: Trigger, base: usize, selected: u8) -> M
 
 // A trigger of the staged set at a base, for the selected lanes.
 pub fn trigger(image: &mut [u8], w: Working, kind: Trigger, base: usize, selected: u8) -> Working
-    requires { ⌜ (length (now image) ≡ 768) × (base + 29 ≤ 768) ⌝ }
+    requires { ⌜ (length (now image) ≡ imageLength) × (base + 29 ≤ imageLength) ⌝ }
     ensures { λ r. ⌜ LeavesState (triggered kind base (state (now (image .entry)) w) selected) (now (image .exit)) r ⌝ }
 {
     if is_ignored(image, kind) {
         return w;
     }
     let m = mark(image, w, kind, base, selected);
-    lanes::put_each(image, map::STATUSES, 4, m.marked, Status::IN_PROGRESS);
+    let status = Status::in_progress();
+    lanes::put_each(image, map::STATUSES, 4, m.marked, status.code);
     m.working
 }

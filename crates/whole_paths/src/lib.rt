@@ -27,12 +27,12 @@ fn share_held(w: Working, set: u8, lane: u8) -> bool
     requires { ⌜ lane < 8 ⌝ }
     ensures { λ r. ⌜ r ≡ share (heldsOf w) (has set) lane ⌝ }
 {
-    let own = stages::held_at(w, lane);
+    let own = records::held_at(w, lane);
     let app = settings::app_sel(own);
     let id = settings::path_id(own);
     let mut all = true;
     for other in 0..8u8 {
-        let held = stages::held_at(w, other);
+        let held = records::held_at(w, other);
         let same = (settings::app_sel(held) == app) & (settings::path_id(held) == id);
         all = all & (!sets::is_in(set, other) | same);
     }
@@ -78,7 +78,7 @@ pub fn held_path(image: &[u8], w: Working, set: u8, lane: u8, whole: u8) -> bool
     requires { ⌜ (length (now image) ≡ 768) × (lane < 8) ⌝ }
     ensures { λ r. ⌜ r ≡ makePath (applicationsOf (now (image .entry))) (heldsOf w) (has set) lane whole ⌝ }
 {
-    let held = stages::held_at(w, lane);
+    let held = records::held_at(w, lane);
     let app = settings::app_sel(held);
     let id = settings::path_id(held);
     share_held(w, set, lane) & is_whole(image, app, id, whole)

@@ -2,6 +2,7 @@
 ghost use mathlib.Core.Path.{_≡_};
 ghost use Prim.Native.Nat.{_<_};
 ghost use lib.ListN.{length};
+ghost use Rattle.model.specs.Map.{imageLength, laneCount};
 ghost use Rattle.model.specs.Work.{early, workedBy, workedOn, workStep};
 ghost use Rattle.model.specs.Outcome.{state};
 ghost use Rattle.closing.specs.Leaves.{Leaves};
@@ -11,15 +12,16 @@ use model::lane::Stage;
 use model::lane::Trigger;
 use model::lane::Verdict;
 use model::lane::Working;
+use model::status::Status;
 
 // A step of a group by its verdict.
 fn by_verdict(image: &mut [u8], w: Working, group: u8, trigger: Trigger, verdict: Verdict) -> Worked
-    requires { ⌜ length (now image) ≡ 768 ⌝ }
+    requires { ⌜ length (now image) ≡ imageLength ⌝ }
     ensures { λ r. ⌜ Leaves (workedBy verdict early (state (now (image .entry)) w) group trigger) (now (image .exit)) r ⌝ }
 {
     match verdict {
         Verdict::Reject(code) => {
-            let working = closing::close(image, w, group, code);
+            let working = closing::close(image, w, group, Status::rejected(code));
             Worked { mask: 0, working }
         }
         Verdict::Pass(n) => {
@@ -35,7 +37,7 @@ fn by_verdict(image: &mut [u8], w: Working, group: u8, trigger: Trigger, verdict
 
 // A step by a lane's stage; an idle lane leaves everything as it is.
 fn by_stage(image: &mut [u8], w: Working, stage: Stage) -> Worked
-    requires { ⌜ length (now image) ≡ 768 ⌝ }
+    requires { ⌜ length (now image) ≡ imageLength ⌝ }
     ensures { λ r. ⌜ Leaves (workedOn stage early (state (now (image .entry)) w)) (now (image .exit)) r ⌝ }
 {
     match stage {
@@ -53,11 +55,9 @@ fn by_stage(image: &mut [u8], w: Working, stage: Stage) -> Worked
 
 // A work step on a lane.
 pub fn work(image: &mut [u8], w: Working, lane: u8) -> Worked
-    requires { ⌜ (length (now image) ≡ 768) × (lane < 8) ⌝ }
+    requires { ⌜ (length (now image) ≡ imageLength) × (lane < laneCount) ⌝ }
     ensures { λ r. ⌜ Leaves (workStep early (state (now (image .entry)) w) lane) (now (image .exit)) r ⌝ }
 {
-    let i = lane as usize;
-    let record = w.lanes[i];
-    let stage = record.stage;
+    let stage = records::stage_at(w, lane);
     by_stage(image, w, stage)
 }

@@ -1,0 +1,62 @@
+-- `records::is_release` meets its contract. Assumes nothing.
+use borrow.Author.Needs.{needs}
+use native.Mathlib.Omega.{arith}
+use mathlib.Core.Path.{_≡_, ap, _∙_}
+use mathlib.Core.Bool.{not}
+use Prim.Native.Nat.{_≤_, _-_}
+use Rattle.bits.specs.Choice.{both}
+use Rattle.bits.specs.Loop.{anyBelow}
+use Rattle.bits.specs.Sets.{has}
+use Rattle.model.specs.Lanes.{stageAt, heldIn}
+use Rattle.model.specs.View.{isUsed}
+use Rattle.model.specs.Groups.{someIn}
+use Rattle.model.specs.Work.{isRelease}
+use Rattle.bits.proofs.Turns.{any-begin, some-turn}
+use Rattle.records.proofs.is_release.Statement.{statement}
+use Rattle.records.proofs.is_release.Tie as tie
+
+abbrev Inv-loop : tie.InvT-loop
+Inv-loop w group used₀ lane₀ used lane = (lane ≤ 8) × (used ≡ anyBelow lane (λ m. both (has group m) (isUsed (heldIn (stageAt w m)))))
+
+abbrev μ-loop : tie.MeasureT-loop
+μ-loop w group used₀ lane₀ used lane = 8 - lane
+
+loop-holds : tie.Need-loop-holds Inv-loop μ-loop
+loop-holds c = (search needs, any-begin _)
+
+held-at-requires : tie.Need-held-at-requires Inv-loop μ-loop
+held-at-requires c κs = search needs
+
+is-in-requires : tie.Need-is-in-requires Inv-loop μ-loop
+is-in-requires c κs = search needs
+
+is-used-requires : tie.Need-is-used-requires Inv-loop μ-loop
+is-used-requires c κs = search needs
+
+add-lane : tie.Need-add-lane Inv-loop μ-loop
+add-lane c = search needs
+
+loop-less : tie.Need-loop-less Inv-loop μ-loop
+loop-less c = search needs
+
+loop-again : tie.Need-loop-again Inv-loop μ-loop
+loop-again c = (search needs, some-turn _ _ _ _ _ _ (c .before .before .before .before .loop .inv .1) (c .before .is-in .ensures) (c .is-used .ensures ∙ ap isUsed (c .before .before .held-at .ensures)))
+
+returns : tie.Need-returns Inv-loop μ-loop
+unfolding isRelease someIn
+returns c = let e : c .before .loop .lane ≡ 8 = omega arith in ap not (rw e at (c .before .loop .inv .1))
+
+pub is-release-spec : {M : Type 1} → statement M
+is-release-spec =
+    tie.close
+    (tie.spec
+    Inv-loop
+    μ-loop
+    loop-holds
+    held-at-requires
+    is-in-requires
+    is-used-requires
+    add-lane
+    loop-less
+    loop-again
+    returns)

@@ -1,0 +1,12 @@
+-- `records::with_stage` meets its contract. Assumes nothing.
+use mathlib.Core.Path.{refl}
+use Rattle.model.specs.Lanes.{withStage}
+use Rattle.records.proofs.with_stage.Statement.{statement}
+use Rattle.records.proofs.with_stage.Tie as tie
+
+returns : tie.Need-returns
+unfolding withStage
+returns c = refl
+
+pub with-stage-spec : {M : Type 1} → statement M
+with-stage-spec = tie.close (tie.spec returns)

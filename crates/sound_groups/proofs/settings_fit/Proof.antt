@@ -1,0 +1,11 @@
+-- `sound_groups::settings_fit` meets its contract. Assumes nothing.
+use native.Mathlib.Omega.{arith}
+use Rattle.sound_groups.proofs.Fits.{fit-by}
+use Rattle.sound_groups.proofs.settings_fit.Statement.{statement}
+use Rattle.sound_groups.proofs.settings_fit.Tie as tie
+
+returns : tie.Need-returns
+returns c = fit-by _ (omega arith)
+
+pub settings-fit-spec : {M : Type 1} → statement M
+settings-fit-spec = tie.close (tie.spec returns)

@@ -1,0 +1,50 @@
+-- `sound_groups::stage_fits` meets its contract. Assumes nothing.
+use borrow.Author.Needs.{needs}
+use mathlib.Core.Path.{ap₂, _∙_}
+use Rattle.bits.specs.Choice.{both}
+use Rattle.bits.proofs.Tests.{and-both}
+use Rattle.model.specs.Sound.{stageFits}
+use Rattle.sound_groups.proofs.stage_fits.Statement.{statement}
+use Rattle.sound_groups.proofs.stage_fits.Tie as tie
+
+enum-told : tie.Need-enum-told
+enum-told c = search needs
+
+enum-known-stage : tie.Need-enum-known-stage
+enum-known-stage c = search needs
+
+is-in-requires : tie.Need-is-in-requires
+is-in-requires c κs = search needs
+
+all-agree-requires : tie.Need-all-agree-requires
+all-agree-requires c κs = search needs
+
+settings-fit-requires : tie.Need-settings-fit-requires
+settings-fit-requires c κs = search needs
+
+verdict-fits-requires : tie.Need-verdict-fits-requires
+verdict-fits-requires c κs = search needs
+
+returns : tie.Need-returns
+unfolding stageFits
+returns c = rw (c .enum-told .given .1)
+
+returns-2 : tie.Need-returns-2
+unfolding stageFits
+returns-2 c =
+    rw
+    (c .before .before .before .before .before .before .stage .given .1, c .before .before .before .is-in .ensures, c .before .before .all-agree .ensures, c .before .settings-fit .ensures, c .verdict-fits .ensures)
+    (and-both _ _ ∙ ap₂ both (and-both _ _) (and-both _ _))
+
+pub stage-fits-spec : {M : Type 1} → statement M
+stage-fits-spec =
+    tie.close
+    (tie.spec
+    enum-told
+    enum-known-stage
+    is-in-requires
+    all-agree-requires
+    settings-fit-requires
+    verdict-fits-requires
+    returns
+    returns-2)
