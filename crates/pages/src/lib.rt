@@ -1,8 +1,9 @@
-// Page selection, and the byte of a page that every host read goes through.
+// Page selection, and where the half of memory starts that an address lies in.
 ghost use mathlib.Core.Path.{_≡_};
-ghost use Prim.Native.Nat.{_+_};
-ghost use lib.ListN.{length, getD};
+ghost use lib.ListN.{length};
+ghost use Rattle.model.specs.Map.{imageLength};
 ghost use Rattle.model.specs.Pages.{pagePlace, selectedStart, pageSelected};
+ghost use Rattle.pages.specs.Halves.{halfStart};
 use model::page::PagePlace;
 
 // 126 BankSelect, 127 PageSelect.
@@ -43,6 +44,17 @@ pub fn selected_start(image: &[u8]) -> usize
     }
 }
 
+// Where the half of memory starts that an address lies in: the upper half lies on the page selected now.
+pub fn half_start(image: &[u8], address: usize) -> usize
+    requires { ⌜ length (now image) ≡ imageLength ⌝ }
+    ensures { λ r. ⌜ r ≡ halfStart (now (image .entry)) address ⌝ }
+{
+    if address < map::PAGE_LENGTH {
+        return 0;
+    }
+    selected_start(image)
+}
+
 // A byte written to 127.
 pub fn select_page(image: &mut [u8], page: u8)
     requires { ⌜ length (now image) ≡ 768 ⌝ }
@@ -57,11 +69,4 @@ pub fn select_page(image: &mut [u8], page: u8)
             image[PAGE_SELECT] = page;
         }
     }
-}
-
-// The byte at an offset from a start, and 0 past the image's end.
-pub fn page_byte(image: &[u8], start: usize, offset: usize) -> u8
-    ensures { λ r. ⌜ r ≡ getD (now (image .entry)) (start + offset) 0 ⌝ }
-{
-    window::page_byte(image, start, offset)
 }

@@ -3,14 +3,14 @@ use mathlib.Core.Path.{_≡_, refl}
 use mathlib.Core.Bool.{false}
 use mathlib.Core.List.{List, [], _∷_}
 use mathlib.Core.Logic.{_⊎_, inl, inr}
-use Prim.Native.Nat.{ℕ, suc, _+_, _-_, _%_, _≤_, _<_}
+use Prim.Native.Nat.{ℕ, suc, _+_, _-_, _≤_, _<_}
 use native.Mathlib.Nat.{add-zero}
 use native.Mathlib.Numerals.{add-one}
 use native.Mathlib.Omega.{arith}
 use lib.Dec.{eqb, leb, ltb}
 use lib.ListN.{length, getD, drop}
 use lib.Seq.{getD-set-other, drop-cons, drop-length}
-use borrow.Author.Tests.{lt-ltb, le-ltb, ltb-true, ltb-false, leb-false, ne-eqb}
+use borrow.Author.Tests.{lt-ltb, le-ltb, ltb-false, leb-false, ne-eqb}
 use Rattle.bits.specs.Choice.{pick, both}
 use Rattle.bits.proofs.Tests.{split}
 use Rattle.model.specs.Map.{Image, writable, applyDPInit, applyImmediate}
@@ -18,8 +18,8 @@ use Rattle.model.specs.Pages.{selectedStart, placeOf}
 use Rattle.model.specs.Access.{stored, byteWritten, bytesWritten, halfEnd}
 use Rattle.model.specs.Outcome.{state}
 use Rattle.model.specs.declared.lane.Working.{Working}
-use Rattle.model.proofs.Starts.{start-fits, start-past}
-use Rattle.writes.specs.Puts.{halfStart, meetsTriggers, bytePut, bytesPut}
+use Rattle.model.proofs.Starts.{start-past}
+use Rattle.writes.specs.Puts.{meetsTriggers, bytePut, bytesPut}
 
 -- a place that is no trigger's
 pub stored-other : (i v : ℕ) (x : Image) (w : Working) → (i ≡ applyDPInit → ⊥) → (i ≡ applyImmediate → ⊥)
@@ -81,26 +81,6 @@ unfolding placeOf halfEnd pick
 untriggered a vs x w h m = split (ltb a 128)
     (λ t. let l : a + length vs ≤ 128 = rw (t, pick) at h in rw (t, pick) (lower-put a vs x w l))
     (λ f. rw (f, pick) (upper-put a (selectedStart x + (a - 128)) vs x w (ltb-false a 128 f) refl (clear-by _ _ (rw (f, pick) at m))))
-
--- ---- a place as a start and an offset
-
-module _ (x : Image) (a : ℕ) where
-  pub place-by : a < 256 → halfStart x a + a % 128 ≡ placeOf x a
-  unfolding halfStart placeOf pick
-  place-by h = split (ltb a 128)
-      (λ t. let l : a < 128 = ltb-true a 128 t in rw (t, pick) (omega arith))
-      (λ f. let l : 128 ≤ a = ltb-false a 128 f in rw (f, pick) (omega arith))
-
-  pub half-fits : halfStart x a + 128 ≤ 768
-  unfolding halfStart pick
-  half-fits = split (ltb a 128) (λ t. rw (t, pick) (omega arith)) (λ f. rw (f, pick) (start-fits x))
-
-  -- the bytes of an access that ends in its own half
-  pub offset-fits : (n : ℕ) → a + n ≤ halfEnd a → a % 128 + n ≤ 128
-  unfolding halfEnd pick
-  offset-fits n h = split (ltb a 128)
-      (λ t. let l : a + n ≤ 128 = rw (t, pick) at h in let b : a < 128 = ltb-true a 128 t in omega arith)
-      (λ f. let l : a + n ≤ 256 = rw (f, pick) at h in let b : 128 ≤ a = ltb-false a 128 f in omega arith)
 
 -- ---- a turn of the loop: the bytes from k on are still to be put, from place i on
 

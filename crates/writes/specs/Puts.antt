@@ -6,11 +6,7 @@ use lib.Dec.{eqb, leb, ltb}
 use lib.ListN.{set}
 use Rattle.bits.specs.Choice.{pick, both}
 use Rattle.model.specs.Map.{Image, pageSelect, applyDPInit, applyImmediate, writable}
-use Rattle.model.specs.Pages.{selectedStart, pageSelected}
-
--- where the half of memory starts that an address lies in
-unfoldable pub halfStart : Image → ℕ → ℕ
-halfStart x address = pick (ltb address 128) 0 (selectedStart x)
+use Rattle.model.specs.Pages.{pageSelected}
 
 -- whether one of n places from i on is a trigger's; the two lie side by side
 unfoldable pub meetsTriggers : ℕ → ℕ → Bool

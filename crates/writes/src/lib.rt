@@ -6,7 +6,7 @@ ghost use Rattle.bits.specs.Choice.{pick};
 ghost use Rattle.model.specs.Map.{writable};
 ghost use Rattle.model.specs.Access.{stored, byteWritten, bytesWritten, halfEnd};
 ghost use Rattle.model.specs.Outcome.{LeavesState, state};
-ghost use Rattle.writes.specs.Puts.{halfStart, meetsTriggers, bytePut, bytesPut};
+ghost use Rattle.writes.specs.Puts.{meetsTriggers, bytePut, bytesPut};
 use model::lane::Trigger;
 use model::lane::Working;
 
@@ -57,24 +57,13 @@ fn write_at(image: &mut [u8], w: Working, start: usize, offset: usize, v: u8) ->
     w
 }
 
-// Where the half of memory starts that an address lies in: the upper half lies on the page selected now.
-fn half_start(image: &[u8], address: usize) -> usize
-    requires { ⌜ length (now image) ≡ 768 ⌝ }
-    ensures { λ r. ⌜ r ≡ halfStart (now (image .entry)) address ⌝ }
-{
-    if address < 128 {
-        return 0;
-    }
-    pages::selected_start(image)
-}
-
 // A byte written to an address.
 fn write_byte(image: &mut [u8], w: Working, address: usize, v: u8) -> Working
     requires { ⌜ (length (now image) ≡ 768) × (address < 256) ⌝ }
     ensures { λ r. ⌜ LeavesState (byteWritten address v (state (now (image .entry)) w)) (now (image .exit)) r ⌝ }
 {
-    let start = half_start(image, address);
-    write_at(image, w, start, address % 128, v)
+    let start = pages::half_start(image, address);
+    write_at(image, w, start, address % map::PAGE_LENGTH, v)
 }
 
 // A write, whatever its bytes touch.
@@ -112,8 +101,9 @@ pub fn write(image: &mut [u8], w: Working, address: u8, bytes: &[u8]) -> Working
     requires { ⌜ (length (now image) ≡ 768) × (address + length (now bytes) ≤ halfEnd address) ⌝ }
     ensures { λ r. ⌜ LeavesState (bytesWritten address (now (bytes .entry)) (state (now (image .entry)) w)) (now (image .exit)) r ⌝ }
 {
-    let start = half_start(image, address as usize);
-    let offset = (address % 128) as usize;
+    let first = address as usize;
+    let start = pages::half_start(image, first);
+    let offset = first % map::PAGE_LENGTH;
     if meets_triggers(start + offset, bytes.len()) {
         return write_each(image, w, address, bytes);
     }

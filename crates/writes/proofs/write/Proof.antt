@@ -5,17 +5,12 @@ use mathlib.Core.Bool.{false}
 use denote.Ref.{now}
 use lib.ListN.{length}
 use Rattle.model.specs.Pages.{placeOf}
+use Rattle.pages.proofs.Halves.{place-by, half-fits, offset-fits}
 use Rattle.writes.specs.Puts.{meetsTriggers}
-use Rattle.writes.proofs.Putting.{place-by, half-fits, offset-fits, untriggered}
+use Rattle.writes.proofs.Putting.{untriggered}
 use borrow.Author.Needs.{needs}
 use Rattle.writes.proofs.write.Statement.{statement}
 use Rattle.writes.proofs.write.Tie as tie
-
-half-start-requires : tie.Need-half-start-requires
-half-start-requires c κs = search needs
-
-cast-offset : tie.Need-cast-offset
-cast-offset c = search needs
 
 add-meets-triggers : tie.Need-add-meets-triggers
 add-meets-triggers c = let a = c .before .before .before .before .args in omega (arith, half-fits (now (a .image)) (a .address))
@@ -23,27 +18,15 @@ add-meets-triggers c = let a = c .before .before .before .before .args in omega 
 meets-triggers-requires : tie.Need-meets-triggers-requires
 meets-triggers-requires c κs =
     let s = c .before .before .before .before in
-    omega (arith, half-fits (now (s .args .image)) (s .args .address), offset-fits (now (s .args .image)) (s .args .address) (length (now (s .args .bytes))) (s .pre .1))
-
-write-each-requires : tie.Need-write-each-requires
-write-each-requires c κs = search needs
-
-same-length : tie.Need-same-length
-same-length c = search needs
-
-returns : tie.Need-returns
-returns c = search needs
+    omega (arith, half-fits (now (s .args .image)) (s .args .address), offset-fits (s .args .address) (length (now (s .args .bytes))) (s .pre .1))
 
 put-bytes-requires : tie.Need-put-bytes-requires
 put-bytes-requires c κs =
     let s = c .before .before .before .before .before .before .before in (
       search needs,
       omega (arith, half-fits (now (s .args .image)) (s .args .address)),
-      omega (arith, offset-fits (now (s .args .image)) (s .args .address) (length (now (s .args .bytes))) (s .pre .1)),
+      omega (arith, offset-fits (s .args .address) (length (now (s .args .bytes))) (s .pre .1)),
     )
-
-same-length-2 : tie.Need-same-length-2
-same-length-2 c = search needs
 
 returns-2 : tie.Need-returns-2
 returns-2 c =
@@ -59,13 +42,12 @@ pub write-spec : {M : Type 1} → statement M
 write-spec =
     tie.close
     (tie.spec
-    half-start-requires
-    cast-offset
+    (λ c κs. search needs)
     add-meets-triggers
     meets-triggers-requires
-    write-each-requires
-    same-length
-    returns
+    (λ c κs. search needs)
+    (λ c. search needs)
+    (λ c. search needs)
     put-bytes-requires
-    same-length-2
+    (λ c. search needs)
     returns-2)

@@ -2,21 +2,15 @@
 use native.Mathlib.Omega.{arith}
 use denote.Ref.{now}
 use Rattle.model.specs.Access.{byteWritten}
-use Rattle.writes.proofs.Putting.{place-by, half-fits}
+use Rattle.pages.proofs.Halves.{place-by, half-fits}
 use borrow.Author.Needs.{needs}
 use Rattle.writes.proofs.write_byte.Statement.{statement}
 use Rattle.writes.proofs.write_byte.Tie as tie
-
-half-start-requires : tie.Need-half-start-requires
-half-start-requires c κs = search needs
 
 write-at-requires : tie.Need-write-at-requires
 write-at-requires c κs =
     let a = c .before .before .before .before .args in
     (search needs, omega (arith, half-fits (now (a .image)) (a .address)), omega arith)
-
-same-length : tie.Need-same-length
-same-length c = search needs
 
 returns : tie.Need-returns
 unfolding byteWritten
@@ -25,4 +19,4 @@ returns c =
     rw (← (place-by (now (a .image)) (a .address) (omega arith)), ← (c .before .before .before .before .half-start .ensures)) (c .before .before .write-at .ensures)
 
 pub write-byte-spec : {M : Type 1} → statement M
-write-byte-spec = tie.close (tie.spec half-start-requires write-at-requires same-length returns)
+write-byte-spec = tie.close (tie.spec (λ c κs. search needs) write-at-requires (λ c. search needs) returns)

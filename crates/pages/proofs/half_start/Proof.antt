@@ -1,0 +1,18 @@
+-- `pages::half_start` meets its contract. Assumes nothing.
+use borrow.Author.Tests.{lt-ltb, le-ltb}
+use Rattle.bits.specs.Choice.{pick}
+use Rattle.pages.specs.Halves.{halfStart}
+use borrow.Author.Needs.{needs}
+use Rattle.pages.proofs.half_start.Statement.{statement}
+use Rattle.pages.proofs.half_start.Tie as tie
+
+returns : tie.Need-returns
+unfolding halfStart pick
+returns c = rw (lt-ltb _ _ (c .if1 .taken))
+
+returns-2 : tie.Need-returns-2
+unfolding halfStart pick
+returns-2 c = rw (le-ltb _ _ (c .before .if1 .left)) (c .selected-start .ensures)
+
+pub half-start-spec : {M : Type 1} → statement M
+half-start-spec = tie.close (tie.spec returns (λ c κs. search needs) returns-2)

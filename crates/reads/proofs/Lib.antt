@@ -1,2 +1,0 @@
--- Where a read lies, and what each of its bytes leaves.
-pub mod Reading
