@@ -1,13 +1,11 @@
--- The contract of a public call admits one outcome, that of a call that prints one text, and there is one for every input (01 "How tightly each answer is held"). Assumes nothing.
+-- The contract of a public call admits one outcome, and there is one for every input (01 "How tightly each answer is held"). Assumes nothing.
 use mathlib.Core.Path.{refl, sym, _∙_}
 use mathlib.Core.List.{List}
 use Prim.Native.Nat.{ℕ}
 use Rattle.model.specs.Outcome.{Leaves}
 use Rattle.model.specs.declared.answer.Left.{Left}
-use Rattle.replies.specs.Texts.{answerFor, leftIn, GivesAs}
-use Rattle.replies.specs.declared.Replayed.{Replayed}
 use Rattle.laws.specs.Asked.{Asked, outcomeOf}
-use Rattle.laws.specs.Left.{Same, leftBy, SameText}
+use Rattle.laws.specs.Left.{Same, leftBy}
 
 module _ (q : Asked) where
   -- whatever meets the contract is the same in answer, image, lane records, buffer and mask
@@ -26,14 +24,3 @@ module _ (q : Asked) where
   pub an-outcome : Leaves (outcomeOf q) (leftBy (outcomeOf q)) (outcomeOf q .state .image) (outcomeOf q .buffer)
   unfolding leftBy
   an-outcome = record { answer = refl; image = refl; working = refl; buffer = refl; mask = refl }
-
--- a text into a lent buffer, in whatever form its answer is shown
-module _ {A : Type 0} (shown : Replayed → A) (room : ℕ) (text before : List ℕ) where
-  -- whatever meets the contract is the same in answer and in every buffer byte
-  pub one-text : (r r′ : A) (buffer buffer′ : List ℕ)
-      → GivesAs shown room text before buffer r → GivesAs shown room text before buffer′ r′ → SameText r buffer r′ buffer′
-  one-text r r′ buffer buffer′ a b = record { answer = a .answer ∙ sym (b .answer); buffer = a .buffer ∙ sym (b .buffer) }
-
-  -- and something meets it
-  pub a-text : GivesAs shown room text before (leftIn room text before) (shown (answerFor room text before))
-  a-text = record { answer = refl; buffer = refl }

@@ -31,8 +31,3 @@ pub record Same (r : Left) (imageLeft bufferLeft : List ℕ) (r′ : Left) (imag
 -- the outcome itself, handed back
 unfoldable pub leftBy : Outcome → Left
 leftBy o = record { answer = o .answer; mask = o .mask; working = o .state .working }
-
--- two ways in which a call that prints may answer and leave its buffer are the same
-pub record SameText {A : Type 0} (r : A) (bufferLeft : List ℕ) (r′ : A) (bufferLeft′ : List ℕ) : Type 0 where
-  pub answer : r ≡ r′
-  pub buffer : bufferLeft ≡ bufferLeft′

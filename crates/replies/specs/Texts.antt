@@ -33,3 +33,8 @@ countOf (Printed n) = n
 -- the number is handed back
 abbrev pub GivesCount : ℕ → List ℕ → List ℕ → List ℕ → ℕ → Type 0
 GivesCount room text before after r = GivesAs countOf room text before after r
+
+-- two ways in which a call that prints may answer and leave its buffer are the same
+pub record SameText {A : Type 0} (r : A) (bufferLeft : List ℕ) (r′ : A) (bufferLeft′ : List ℕ) : Type 0 where
+  pub answer : r ≡ r′
+  pub buffer : bufferLeft ≡ bufferLeft′
