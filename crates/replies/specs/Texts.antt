@@ -16,7 +16,7 @@ answerFor room text buffer = pick (ltb (length buffer) room) ShortBuffer (Printe
 unfoldable pub leftIn : ℕ → List ℕ → List ℕ → List ℕ
 leftIn room text buffer = pick (ltb (length buffer) room) buffer (laidOver text buffer)
 
--- THE CONTRACT of every call that prints: what it handed back is the answer in the form that it is shown in, and the buffer is as it is left
+-- THE CONTRACT of every call that prints: what it handed back is the answer, in the form in which it shows it, and the buffer as it left it is the text's
 pub record GivesAs {A : Type 0} (shown : Replayed → A) (room : ℕ) (text before after : List ℕ) (r : A) : Type 0 where
   pub answer : r ≡ shown (answerFor room text before)
   pub buffer : after ≡ leftIn room text before
