@@ -1,7 +1,7 @@
 // Replays the night file on standard input and writes what it prints.
 use libc::STDIN_FILENO;
 use libc::STDOUT_FILENO;
-use replay::Replayed;
+use replies::Replayed;
 
 // The longest file, and one byte more to notice a longer one.
 const INPUT: usize = 60785;

@@ -1,7 +1,17 @@
 // Runs a list of four events from start, in a buffer with room and in one without, and writes the answers as digits.
+ghost use Rattle.model.specs.Outcome.{Leaves, state, listOutcome};
 use libc::STDOUT_FILENO;
+use model::answer::Left;
 use model::event::Call;
 use model::event::Event;
+use model::lane::Working;
+
+// A list of four events by value, for those who have no slice of events to lend.
+fn play_four(image: &mut [u8], answers: &mut [u8], w: Working, list: [Event; 4]) -> Left
+    ensures { λ r. ⌜ Leaves (listOutcome (state (now (image .entry)) w) (now (answers .entry)) list) r (now (image .exit)) (now (answers .exit)) ⌝ }
+{
+    playlist::play(image, answers, w, &list)
+}
 
 // An answer's number as a character.
 fn digit(number: u8) -> u8 {
@@ -44,8 +54,7 @@ fn night() -> [Event; 4] {
 fn with_room(image: &mut [u8]) {
     let mut answers = [254u8; 6];
     let started = registers::start(image);
-    let run = playlist::play_four(image, &mut answers, started.working, night());
-    let left = run.left;
+    let left = play_four(image, &mut answers, started.working, night());
     let answer = left.answer;
     let text = [
         digit(answers[0]),
@@ -64,8 +73,7 @@ fn with_room(image: &mut [u8]) {
 fn without_room(image: &mut [u8]) {
     let mut answers = [254u8; 3];
     let started = registers::start(image);
-    let run = playlist::play_four(image, &mut answers, started.working, night());
-    let left = run.left;
+    let left = play_four(image, &mut answers, started.working, night());
     let answer = left.answer;
     let text = [
         digit(answers[0]),

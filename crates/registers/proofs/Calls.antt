@@ -1,8 +1,9 @@
 -- What a call leaves once the refusals of its entry are known. Assumes nothing.
 use mathlib.Core.Path.{_≡_, refl, ap, _∙_}
 use mathlib.Core.Bool.{true, false}
-use mathlib.Core.List.{List, []}
+use mathlib.Core.List.{List, [], _∷_}
 use Prim.Native.Nat.{ℕ}
+use native.Mathlib.Omega.{arith}
 use lib.ListN.{length}
 use Rattle.bits.specs.Choice.{pick}
 use Rattle.bits.proofs.Tests.{pick-true, pick-false}
@@ -13,11 +14,13 @@ use Rattle.model.specs.Triggers.{State}
 use Rattle.model.specs.Work.{early}
 use Rattle.model.specs.Start.{started}
 use Rattle.model.specs.Refusals.{firstOf, startRefusals, entryRefusals}
-use Rattle.model.specs.Step.{step}
+use Rattle.model.specs.Step.{event, carried, step}
 use Rattle.model.specs.Outcome.{Leaves, unchanged, startBy, startOutcome, stepOutcome, callBy, callOutcome}
 use Rattle.model.specs.declared.answer.Answer.{Answer}
 use Rattle.model.specs.declared.answer.Left.{Left}
+use Rattle.model.specs.declared.event.Call.{Call}
 use Rattle.model.specs.declared.event.Event.{Event}
+use Rattle.replies.specs.Asked.{asked}
 
 -- ---- start
 module _ (x : Image) where
@@ -51,3 +54,14 @@ module _ (s : State) (buffer : List ℕ) (e : Event) (r : Left) where
       → Leaves (stepOutcome (step early (length buffer) s e) buffer) r y b → Leaves (callOutcome s buffer e) r y b
   unfolding callOutcome callBy
   call-step y b q h = rw (pick-true (stepOutcome (step early (length buffer) s e) buffer) (unchanged (firstOf (entryRefusals s)) s buffer) q) h
+
+  -- an empty buffer is left empty
+  pub left-empty : (y : Image) (b : List ℕ) → length b ≡ 0 → Leaves (callOutcome s buffer e) r y b → Leaves (callOutcome s buffer e) r y []
+  left-empty y [] n h = h
+  left-empty y (x ∷ b) n h = absurd (omega arith)
+
+-- an event that is no write needs no bytes
+pub bytes-unused : (s : State) (buffer bytes : List ℕ) (c : Call) (r : Left) (y : Image) (b : List ℕ) → carried early s bytes c ≡ carried early s [] c
+    → Leaves (callOutcome s buffer (event c bytes)) r y b → Leaves (callOutcome s buffer (asked c)) r y b
+unfolding callOutcome callBy step
+bytes-unused s buffer bytes c r y b q h = rw q at h

@@ -12,8 +12,8 @@ use borrow.Author.Tests.{lt-ltb, le-ltb}
 use Rattle.bits.proofs.Tests.{split, pick-true, pick-false}
 use Rattle.model.specs.Outcome.{laidOver}
 use Rattle.text.specs.Buffer.{laidAt, Puts}
-use Rattle.replay.specs.Replay.{answerFor, leftIn, Gives}
-use Rattle.replay.specs.declared.Replayed.the-variants.{ShortBuffer, Printed}
+use Rattle.replies.specs.Texts.{answerFor, leftIn, Gives}
+use Rattle.replies.specs.declared.Replayed.the-variants.{ShortBuffer, Printed}
 
 -- a turn of a copy: one element more of the source, one less of what was there
 pub copy-turn : (s d : List ℕ) (i : ℕ) → i < length s → i < length d → set (take i s ++ drop i d) i (getD s i 0) ≡ take (i + 1) s ++ drop (i + 1) d

@@ -11,11 +11,13 @@ ghost use Rattle.model.specs.Text.{badLine};
 ghost use Rattle.model.specs.Night.{printed};
 ghost use Rattle.model.specs.declared.file.FileCheck.the-variants as found;
 ghost use Rattle.text.specs.Buffer.{Puts};
-ghost use Rattle.replay.specs.Replay.{roomFor, answerFor, leftIn, Gives, countOf, textAfter};
+ghost use Rattle.replies.specs.Texts.{Gives, countOf, GivesCount};
+ghost use Rattle.replay.specs.Replay.{roomFor, textAfter};
 use lines::Reached;
 use model::answer::Answer;
 use model::file::FileCheck;
 use model::lane::Working;
+use replies::Replayed;
 
 // Where a file's image starts, and its length.
 const IMAGE_OFFSET: usize = 16;
@@ -32,12 +34,6 @@ const BAD_ROOM: usize = 7;
 
 // What C is answered where the buffer is too short.
 const SHORT_BUFFER: usize = 18446744073709551615;
-
-// What a replay answers: that the buffer is too short, or how many bytes it printed.
-pub enum Replayed {
-    ShortBuffer,
-    Printed(usize),
-}
 
 // A file's image.
 fn copy_image(file: &[u8], image: &mut [u8])
@@ -121,8 +117,7 @@ fn count_of(answer: Replayed) -> usize
 // `replay` for a program in C: the bytes printed, or the largest number where the buffer is too short.
 #[no_mangle]
 pub extern "C" fn night_replay(file: &[u8], out: &mut [u8]) -> usize
-    ensures { λ r. ⌜ r ≡ countOf (answerFor (roomFor (checked (now (file .entry)))) (printed (now (file .entry))) (now (out .entry))) ⌝ }
-    ensures { λ _. ⌜ now (out .exit) ≡ leftIn (roomFor (checked (now (file .entry)))) (printed (now (file .entry))) (now (out .entry)) ⌝ }
+    ensures { λ r. ⌜ GivesCount (roomFor (checked (now (file .entry)))) (printed (now (file .entry))) (now (out .entry)) (now (out .exit)) r ⌝ }
 {
     let answer = replay(file, out);
     count_of(answer)

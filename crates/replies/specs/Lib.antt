@@ -1,2 +1,3 @@
--- What the contracts of the steps cite beside the model.
+-- What the contracts of the steps and of the calls that print cite beside the model.
 pub mod Asked
+pub mod Texts

@@ -1,4 +1,4 @@
-// What a call hands back where no lane is to be commissioned, and the events that the calls ask for.
+// What calls hand back, and how contracts over it are said: a reply where no lane is to be commissioned, the events that are asked for, and a text into a lent buffer.
 ghost use mathlib.Core.Path.{_≡_};
 use model::answer::Answer;
 use model::answer::Left;
@@ -13,4 +13,10 @@ pub fn reply(answer: Answer, w: Working) -> Left
         mask: 0,
         working: w,
     }
+}
+
+// The answer to a call that prints into a lent buffer: that the buffer is too short, or how many bytes were printed.
+pub enum Replayed {
+    ShortBuffer,
+    Printed(usize),
 }

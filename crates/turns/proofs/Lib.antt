@@ -1,2 +1,3 @@
--- The laws of a list of events turn by turn.
+-- The laws of a list of events: its admission from the code's tests, and turn by turn.
 pub mod Laws
+pub mod Admitted

@@ -1,10 +1,12 @@
-// One event of a list, and its answer's number into a lent buffer.
+// A list of events: its admission, with 1, 2, 3 and 5 asked once for the whole list, and the turn of one event, whose answer's number goes into a lent buffer.
 ghost use mathlib.Core.Path.{_≡_};
 ghost use Prim.Native.Nat.{_≤_, _<_};
 ghost use lib.ListN.{length};
-ghost use Rattle.turns.specs.Turns.{turnOf};
+ghost use Rattle.turns.specs.Turns.{refusedRun, beginOf, turnOf};
+use model::answer::Answer;
 use model::answer::Left;
 use model::event::Event;
+use model::lane::Working;
 
 // The most bytes that a read gives.
 const READ_LIMIT: usize = 128;
@@ -14,6 +16,37 @@ pub struct Run {
     pub left: Left,
     pub at: usize,
     pub end: usize,
+}
+
+// A list that is refused: none of its events is to be done.
+fn refused(answer: Answer, w: Working) -> Run
+    ensures { λ r. ⌜ r ≡ refusedRun answer w ⌝ }
+{
+    let left = replies::reply(answer, w);
+    Run {
+        left,
+        at: 0,
+        end: 0,
+    }
+}
+
+// The admission of a list of n events.
+pub fn begin<'a>(image: &'a mut [u8], answers: &'a mut [u8], w: Working, n: usize) -> Run
+    ensures { λ r. ⌜ record { image = now (image .exit); answers = now (answers .exit); r = r } ≡ beginOf n (now (image .entry)) (now (answers .entry)) w ⌝ }
+{
+    let answer = entry::refusal(image, w);
+    if answer.number() != 0 {
+        return refused(answer, w);
+    }
+    if answers.len() < n {
+        return refused(Answer::ShortBuffer, w);
+    }
+    let left = replies::reply(Answer::Done, w);
+    Run {
+        left,
+        at: 0,
+        end: n,
+    }
 }
 
 // One event, and its answer's number; the bytes of a read are dropped.

@@ -49,9 +49,12 @@ use denote.Triple.Table.{entered, cited}
 use denote.Triple.Walked.{says, Stays, stay-slice, stay-none, stay-none-slice, walkOf, goes-slice, goes-none, goes-none-slice, Walks, ends-at, walked, walk-meets}
 use denote.Exit.{yes}
 use Rattle.turns.specs.Turns.{Playing, beginOf, turnOf, turnsOf}
+use Rattle.model.specs.declared.answer.Left.{Left}
 use Rattle.model.specs.declared.event.Event.{Event}
 use Rattle.turns.specs.declared.Run.{Run}
 use Rattle.model.specs.declared.lane.Working.{Working}
+use Rattle.model.proofs.answer.Left as L
+use Rattle.model.proofs.answer.Left.Laws as L′
 use Rattle.model.proofs.event.Event as E
 use Rattle.model.proofs.event.Event.Laws as E′
 use Rattle.model.proofs.lane.Working as S
@@ -60,10 +63,10 @@ use Rattle.playlist.proofs.Again.{LentAgain, lends-at, back-at}
 use Rattle.turns.proofs.Laws.{none, begin-at, begin-end, begin-room, begin-length, turn-at, turn-end, turns-next, turns-end, played-leaves}
 use Rattle.turns.proofs.Run as R
 use Rattle.turns.proofs.Run.Laws as R′
-use Rattle.admission.proofs.begin as begin
-use Rattle.admission.proofs.begin.Symbol as begin-def
-use Rattle.admission.proofs.begin.Symbol.{name as #admission·begin}
-use Rattle.admission.proofs.begin.Met as begin-thm
+use Rattle.turns.proofs.begin as begin
+use Rattle.turns.proofs.begin.Symbol as begin-def
+use Rattle.turns.proofs.begin.Symbol.{name as #turns·begin}
+use Rattle.turns.proofs.begin.Met as begin-thm
 use Rattle.turns.proofs.turn as turn
 use Rattle.turns.proofs.turn.Symbol as turn-def
 use Rattle.turns.proofs.turn.Symbol.{name as #turns·turn}
@@ -77,9 +80,12 @@ use Rattle.playlist.proofs.play.Code.Mir as code-mir
 abbrev stayed : Stays (play.ended .signature .params) (play.ended .kept)
 stayed = (stay-slice (0 ∷ []) tt (plain (λ _. u8)), (stay-slice (1 ∷ []) tt (plain (λ _. u8)), (stay-none (λ _. S.the-row) yes, (stay-none-slice (2 ∷ []) tt (plain (λ _. E.the-row)) yes, tt))))
 
--- the machine values of a working state and of an event
+-- the machine values of a working state, of what is handed back, of the loop's state and of an event
 abbrev val : Working → Val
 val = LL.val S.the-type S′.the-laws
+
+abbrev val-l : Left → Val
+val-l = LL.val L.the-type L′.the-laws
 
 abbrev val-r : Run → Val
 val-r = LL.val R.the-type R′.the-laws
@@ -187,15 +193,19 @@ module _ {M : Type 1} (𝓤 : URA M) (H : Heap 𝓤) (A : Atoms 𝓤) (W : Given
   abbrev State : Type 0
   State = Loop es (length xs) (length zs) s₀
 
-  exits : (t : State) → t .s .r .end ≤ t .s .r .at → ent 𝓤 (⋆ 𝓤 H A (Held (t .s))) (Post (val-r (t .s .r)))
+  -- what is handed back, as a part of the loop's state
+  left-fits : (t : State) → Is L.the-row (t .s .r .left) (val-l (t .s .r .left) ∷ [])
+  left-fits t = LL.owed R.the-type R′.the-laws (t .s .r) _ (t .fits) .0
+
+  exits : (t : State) → t .s .r .end ≤ t .s .r .at → ent 𝓤 (⋆ 𝓤 H A (Held (t .s))) (Post (val-l (t .s .r .left)))
   exits t over =
       qed W (Held (t .s)) ∵
-      suffices ! _ (ends-at 𝓤 H A play.ended stayed (play.clauses 𝓤 H A at-mem runs″) W bound (val-r (t .s .r)) (t .s .r) (t .s .image, (t .s .answers, (tt, (tt, tt)))) (t .image-is, (t .answers-is, (tt, (tt, tt))))) $
+      suffices ! _ (ends-at 𝓤 H A play.ended stayed (play.clauses 𝓤 H A at-mem runs″) W bound (val-l (t .s .r .left)) (t .s .r .left) (t .s .image, (t .s .answers, (tt, (tt, tt)))) (t .image-is, (t .answers-is, (tt, (tt, tt))))) $
       says ! (played-leaves es xs zs w₀ (t .s) (sym (turns-end es (s₀ .r .end) (begin-end (length es) xs zs w₀) (t .s .r .at) (t .s) (subst (λ (n : ℕ). n ≤ t .s .r .at) (t .end-is) over)) ∙ t .same)) $
       nothing ! $ move ! (6 ∷ 0 ∷ []) $ join ! $ move ! (4 ∷ 0 ∷ []) $ join ! $ move ! (2 ∷ 0 ∷ []) $ join ! $ frame ! $
       -- [the image; the answers; the events]: what the parameters own, and the result
       nothing ! $ move ! (3 ∷ 0 ∷ []) $ fjoin ! $ owned ! S.the-row (Is S.the-row) (LL.makes S.the-type S′.the-plain 𝓤 H A) w₀ _ w-fits $ fjoin ! $ move ! (2 ∷ 0 ∷ []) $ fjoin ! $ move ! (1 ∷ 0 ∷ []) $ fjoin ! $
-      owned ! R.the-row (Is R.the-row) (LL.makes R.the-type R′.the-plain 𝓤 H A) (t .s .r) _ (t .fits) $ move ! (1 ∷ 0 ∷ []) $ done !
+      owned ! L.the-row (Is L.the-row) (LL.makes L.the-type L′.the-plain 𝓤 H A) (t .s .r .left) _ (left-fits t) $ move ! (1 ∷ 0 ∷ []) $ done !
 
   -- what a callee is handed of the two slices, lent for ν under the names δ₀ and δ₁
   abbrev Lent : ℕ → GName → GName → List ℕ → List ℕ → List (Item 𝓤)
@@ -243,7 +253,7 @@ module _ {M : Type 1} (𝓤 : URA M) (H : Heap 𝓤) (A : Atoms 𝓤) (W : Given
   abbrev Said : Playing → Event → Run → List ℕ → List ℕ → Type 0
   Said s e r ys us = _≡_ {A = Playing} (record { image = ys; answers = us; r = r }) (turnOf e s)
 
-  module _ (𝓣 : Tables 𝓤 H) (fm : FmC 𝓤 H (W .laws) (𝓣 .C)) (known-Begin : Triple 𝓤 (𝓣 .C #admission·begin) (Begin 𝓤 H A at-mem runs″)) (known-Turn : Triple 𝓤 (𝓣 .C #turns·turn) (Turn 𝓤 H A at-mem runs″)) (l₀ l₁ l₂ l₃ l₄ l₅ l₆ l₇ l₈ l₉ l₁₀ l₁₁ l₁₂ l₁₃ l₁₄ l₁₅ l₁₆ l₁₇ l₁₈ : ℕ) where
+  module _ (𝓣 : Tables 𝓤 H) (fm : FmC 𝓤 H (W .laws) (𝓣 .C)) (known-Begin : Triple 𝓤 (𝓣 .C #turns·begin) (Begin 𝓤 H A at-mem runs″)) (known-Turn : Triple 𝓤 (𝓣 .C #turns·turn) (Turn 𝓤 H A at-mem runs″)) (l₀ l₁ l₂ l₃ l₄ l₅ l₆ l₇ l₈ l₉ l₁₀ l₁₁ l₁₂ l₁₃ l₁₄ l₁₅ l₁₆ l₁₇ l₁₈ : ℕ) where
     abbrev C : Calls 𝓤 H
     C = 𝓣 .C
 
@@ -251,17 +261,17 @@ module _ {M : Type 1} (𝓤 : URA M) (H : Heap 𝓤) (A : Atoms 𝓤) (W : Given
     Λ = 𝓣 .Λ
 
     abbrev En : Env 𝓤 H
-    En = (R′.mir, l₀) ∷ (slice₀, l₁) ∷ (slice₁, l₂) ∷ (S′.mir, l₃) ∷ (slice₂, l₄) ∷ (R′.mir, l₅) ∷ (ref, l₆) ∷ (slice, l₇) ∷ (ref, l₈) ∷ (slice, l₉) ∷ (word, l₁₀) ∷ (tyBool, l₁₁) ∷ (ref, l₁₂) ∷ (slice, l₁₃) ∷ (ref, l₁₄) ∷ (slice, l₁₅) ∷ (word, l₁₆) ∷ (tyPtr, l₁₇) ∷ (E′.mir, l₁₈) ∷ []
+    En = (L′.mir, l₀) ∷ (slice₀, l₁) ∷ (slice₁, l₂) ∷ (S′.mir, l₃) ∷ (slice₂, l₄) ∷ (R′.mir, l₅) ∷ (ref, l₆) ∷ (slice, l₇) ∷ (ref, l₈) ∷ (slice, l₉) ∷ (word, l₁₀) ∷ (tyBool, l₁₁) ∷ (ref, l₁₂) ∷ (slice, l₁₃) ∷ (ref, l₁₄) ∷ (slice, l₁₅) ∷ (word, l₁₆) ∷ (tyPtr, l₁₇) ∷ (E′.mir, l₁₈) ∷ []
 
     -- before the admission
     abbrev Before : List (Item 𝓤)
     Before = ‵ (Own₀ xs) ∷ ‵ (flft κ₀ q₀) ∷ ‵ (Own₁ zs) ∷ ‵ (flft κ₁ q₁) ∷ ‵ Own₂ ∷ ‵ (flft κ₂ q₂)
-        ∷ ‵ (froom E′.mir l₁₈ 0) ∷ ‵ (fdies E′.mir l₁₈) ∷ ‵ (froom tyPtr l₁₇ 0) ∷ ‵ (fdies tyPtr l₁₇) ∷ ‵ (froom word l₁₆ 0) ∷ ‵ (fdies word l₁₆) ∷ ‵ (froom slice l₁₅ 0) ∷ ‵ (fdies slice l₁₅) ∷ ‵ (froom ref l₁₄ 0) ∷ ‵ (fdies ref l₁₄) ∷ ‵ (froom slice l₁₃ 0) ∷ ‵ (fdies slice l₁₃) ∷ ‵ (froom ref l₁₂ 0) ∷ ‵ (fdies ref l₁₂) ∷ ‵ (froom tyBool l₁₁ 0) ∷ ‵ (fdies tyBool l₁₁) ∷ ‵ (froom word l₁₀ 0) ∷ ‵ (fdies word l₁₀) ∷ ‵ (froom slice l₉ 0) ∷ ‵ (fdies slice l₉) ∷ ‵ (froom ref l₈ 0) ∷ ‵ (fdies ref l₈) ∷ ‵ (froom slice l₇ 0) ∷ ‵ (fdies slice l₇) ∷ ‵ (froom ref l₆ 0) ∷ ‵ (fdies ref l₆) ∷ ‵ (froom R′.mir l₅ 0) ∷ ‵ (fdies R′.mir l₅) ∷ ‵ (fat fullShare slice₂ l₄ 0 (v₂)) ∷ ‵ (fdies slice₂ l₄) ∷ ‵ (fat fullShare S′.mir l₃ 0 (val w₀)) ∷ ‵ (fdies S′.mir l₃) ∷ ‵ (fat fullShare slice₁ l₂ 0 (v₁)) ∷ ‵ (fdies slice₁ l₂) ∷ ‵ (fat fullShare slice₀ l₁ 0 (v₀)) ∷ ‵ (fdies slice₀ l₁) ∷ ‵ (froom R′.mir l₀ 0) ∷ ‵ (fdies R′.mir l₀) ∷ []
+        ∷ ‵ (froom E′.mir l₁₈ 0) ∷ ‵ (fdies E′.mir l₁₈) ∷ ‵ (froom tyPtr l₁₇ 0) ∷ ‵ (fdies tyPtr l₁₇) ∷ ‵ (froom word l₁₆ 0) ∷ ‵ (fdies word l₁₆) ∷ ‵ (froom slice l₁₅ 0) ∷ ‵ (fdies slice l₁₅) ∷ ‵ (froom ref l₁₄ 0) ∷ ‵ (fdies ref l₁₄) ∷ ‵ (froom slice l₁₃ 0) ∷ ‵ (fdies slice l₁₃) ∷ ‵ (froom ref l₁₂ 0) ∷ ‵ (fdies ref l₁₂) ∷ ‵ (froom tyBool l₁₁ 0) ∷ ‵ (fdies tyBool l₁₁) ∷ ‵ (froom word l₁₀ 0) ∷ ‵ (fdies word l₁₀) ∷ ‵ (froom slice l₉ 0) ∷ ‵ (fdies slice l₉) ∷ ‵ (froom ref l₈ 0) ∷ ‵ (fdies ref l₈) ∷ ‵ (froom slice l₇ 0) ∷ ‵ (fdies slice l₇) ∷ ‵ (froom ref l₆ 0) ∷ ‵ (fdies ref l₆) ∷ ‵ (froom R′.mir l₅ 0) ∷ ‵ (fdies R′.mir l₅) ∷ ‵ (fat fullShare slice₂ l₄ 0 (v₂)) ∷ ‵ (fdies slice₂ l₄) ∷ ‵ (fat fullShare S′.mir l₃ 0 (val w₀)) ∷ ‵ (fdies S′.mir l₃) ∷ ‵ (fat fullShare slice₁ l₂ 0 (v₁)) ∷ ‵ (fdies slice₁ l₂) ∷ ‵ (fat fullShare slice₀ l₁ 0 (v₀)) ∷ ‵ (fdies slice₀ l₁) ∷ ‵ (froom L′.mir l₀ 0) ∷ ‵ (fdies L′.mir l₀) ∷ []
 
     -- the invariant: what is held, and then the locals, the last first
     abbrev At : State → List (Item 𝓤)
     At t = ‵ (Own₀ (t .s .image)) ∷ ‵ (flft κ₀ q₀) ∷ ‵ (Own₁ (t .s .answers)) ∷ ‵ (flft κ₁ q₁) ∷ ‵ Own₂ ∷ ‵ (flft κ₂ q₂)
-        ∷ ‵ (froom E′.mir l₁₈ 0) ∷ ‵ (fdies E′.mir l₁₈) ∷ ‵ (froom tyPtr l₁₇ 0) ∷ ‵ (fdies tyPtr l₁₇) ∷ ‵ (froom word l₁₆ 0) ∷ ‵ (fdies word l₁₆) ∷ ‵ (froom slice l₁₅ 0) ∷ ‵ (fdies slice l₁₅) ∷ ‵ (froom ref l₁₄ 0) ∷ ‵ (fdies ref l₁₄) ∷ ‵ (froom slice l₁₃ 0) ∷ ‵ (fdies slice l₁₃) ∷ ‵ (froom ref l₁₂ 0) ∷ ‵ (fdies ref l₁₂) ∷ ‵ (froom tyBool l₁₁ 0) ∷ ‵ (fdies tyBool l₁₁) ∷ ‵ (froom word l₁₀ 0) ∷ ‵ (fdies word l₁₀) ∷ ‵ (froom slice l₉ 0) ∷ ‵ (fdies slice l₉) ∷ ‵ (froom ref l₈ 0) ∷ ‵ (fdies ref l₈) ∷ ‵ (froom slice l₇ 0) ∷ ‵ (fdies slice l₇) ∷ ‵ (froom ref l₆ 0) ∷ ‵ (fdies ref l₆) ∷ ‵ (fat fullShare R′.mir l₅ 0 (val-r (t .s .r))) ∷ ‵ (fdies R′.mir l₅) ∷ ‵ (fat fullShare slice₂ l₄ 0 (v₂)) ∷ ‵ (fdies slice₂ l₄) ∷ ‵ (fat fullShare S′.mir l₃ 0 (val w₀)) ∷ ‵ (fdies S′.mir l₃) ∷ ‵ (fat fullShare slice₁ l₂ 0 (v₁)) ∷ ‵ (fdies slice₁ l₂) ∷ ‵ (fat fullShare slice₀ l₁ 0 (v₀)) ∷ ‵ (fdies slice₀ l₁) ∷ ‵ (froom R′.mir l₀ 0) ∷ ‵ (fdies R′.mir l₀) ∷ []
+        ∷ ‵ (froom E′.mir l₁₈ 0) ∷ ‵ (fdies E′.mir l₁₈) ∷ ‵ (froom tyPtr l₁₇ 0) ∷ ‵ (fdies tyPtr l₁₇) ∷ ‵ (froom word l₁₆ 0) ∷ ‵ (fdies word l₁₆) ∷ ‵ (froom slice l₁₅ 0) ∷ ‵ (fdies slice l₁₅) ∷ ‵ (froom ref l₁₄ 0) ∷ ‵ (fdies ref l₁₄) ∷ ‵ (froom slice l₁₃ 0) ∷ ‵ (fdies slice l₁₃) ∷ ‵ (froom ref l₁₂ 0) ∷ ‵ (fdies ref l₁₂) ∷ ‵ (froom tyBool l₁₁ 0) ∷ ‵ (fdies tyBool l₁₁) ∷ ‵ (froom word l₁₀ 0) ∷ ‵ (fdies word l₁₀) ∷ ‵ (froom slice l₉ 0) ∷ ‵ (fdies slice l₉) ∷ ‵ (froom ref l₈ 0) ∷ ‵ (fdies ref l₈) ∷ ‵ (froom slice l₇ 0) ∷ ‵ (fdies slice l₇) ∷ ‵ (froom ref l₆ 0) ∷ ‵ (fdies ref l₆) ∷ ‵ (fat fullShare R′.mir l₅ 0 (val-r (t .s .r))) ∷ ‵ (fdies R′.mir l₅) ∷ ‵ (fat fullShare slice₂ l₄ 0 (v₂)) ∷ ‵ (fdies slice₂ l₄) ∷ ‵ (fat fullShare S′.mir l₃ 0 (val w₀)) ∷ ‵ (fdies S′.mir l₃) ∷ ‵ (fat fullShare slice₁ l₂ 0 (v₁)) ∷ ‵ (fdies slice₁ l₂) ∷ ‵ (fat fullShare slice₀ l₁ 0 (v₀)) ∷ ‵ (fdies slice₀ l₁) ∷ ‵ (froom L′.mir l₀ 0) ∷ ‵ (fdies L′.mir l₀) ∷ []
 
     abbrev Turned : State → Out → SProp 𝓤
     Turned t = afterTurn 𝓤 H (Below 𝓤 H A Nearer At t) (afterBlock 𝓤 H (afterSeq 𝓤 H (Wp 𝓤 H C Λ En code-mir.t-8 (atReturn 𝓤 H En Post)) (atReturn 𝓤 H En Post)))
@@ -275,7 +285,7 @@ module _ {M : Type 1} (𝓤 : URA M) (H : Heap 𝓤) (A : Atoms 𝓤) (W : Given
     leaves-off t is =
         assigns ! (bin ! (load ! (from ! (fld ! refl (stop !))) (look-in ! 32 (sub ! 1 refl (whole !)))) (load ! (from ! (fld ! refl (stop !))) (look-in ! 32 (sub ! 2 refl (whole !)))) tt) (from ! (stop !)) (init ! 20 refl (tt, tt)) $ rewrite ! 20 (λ (z : Bool). ‵ (fat fullShare tyBool l₁₁ 0 (vbool z))) is refl $
         leaves-loop ! (load ! (from ! (stop !)) (look ! 20 refl)) $ exec ! C Λ En code-mir.t-8 (atRet En Post) $
-        assigns ! (of-opd ! (load ! (from ! (stop !)) (look ! 32 refl))) (from ! (stop !)) (init ! 42 refl (typed (t .s .r) (val-r (t .s .r)) (t .fits))) $
+        assigns ! (of-opd ! (load ! (from ! (fld ! refl (stop !))) (look-in ! 32 (sub ! 0 refl (whole !))))) (from ! (stop !)) (init ! 42 refl (LL.lawful L.the-type L′.the-laws 𝓤 H A W .typed (t .s .r .left) _ (left-fits t) .0)) $
         returns ! (look ! 42 refl) $ forget ! 42 refl $ forget ! 40 refl $ forget ! 38 refl $ forget ! 36 refl $ forget ! 34 refl $ forget ! 32 refl $ forget ! 20 refl $
         move ! (42 ∷ 43 ∷ []) $ free1 ! $ move ! (40 ∷ 41 ∷ []) $ free1 ! $ move ! (38 ∷ 39 ∷ []) $ free1 ! $ move ! (36 ∷ 37 ∷ []) $ free1 ! $ move ! (34 ∷ 35 ∷ []) $ free1 ! $ move ! (32 ∷ 33 ∷ []) $ free1 ! $ move ! (30 ∷ 31 ∷ []) $ free1 ! $ move ! (28 ∷ 29 ∷ []) $ free1 ! $ move ! (26 ∷ 27 ∷ []) $ free1 ! $ move ! (24 ∷ 25 ∷ []) $ free1 ! $ move ! (22 ∷ 23 ∷ []) $ free1 ! $ move ! (20 ∷ 21 ∷ []) $ free1 ! $ move ! (18 ∷ 19 ∷ []) $ free1 ! $ move ! (16 ∷ 17 ∷ []) $ free1 ! $ move ! (14 ∷ 15 ∷ []) $ free1 ! $ move ! (12 ∷ 13 ∷ []) $ free1 ! $ move ! (10 ∷ 11 ∷ []) $ free1 ! $ move ! (8 ∷ 9 ∷ []) $ free1 ! $ move ! (6 ∷ 7 ∷ []) $ free1 ! $ free0 ! $ by ! (exits t (nltb→le (t .s .r .at) (t .s .r .end) (subst (λ (z : Bool). Holds (not z)) (sym is) tt)))
 
@@ -417,7 +427,7 @@ module _ {M : Type 1} (𝓤 : URA M) (H : Heap 𝓤) (A : Atoms 𝓤) (W : Given
         keep ! (2 ∷ 3 ∷ 0 ∷ 1 ∷ 7 ∷ 8 ∷ 9 ∷ 10 ∷ 11 ∷ 12 ∷ 13 ∷ 14 ∷ 15 ∷ 16 ∷ 17 ∷ 18 ∷ 19 ∷ 20 ∷ 21 ∷ 22 ∷ 23 ∷ 24 ∷ 25 ∷ 26 ∷ 27 ∷ 28 ∷ 29 ∷ 30 ∷ 31 ∷ 32 ∷ 33 ∷ 34 ∷ 35 ∷ 36 ∷ 37 ∷ 38 ∷ 39 ∷ 40 ∷ 41 ∷ 42 ∷ 43 ∷ 44 ∷ 45 ∷ 46 ∷ []) $ looped (began r (ls .0) (ls .1 .0) said len₀ len₁ (subst (Is R.the-row r) (LL.tells R.the-type R′.the-laws r _ fits) fits))))))))))))
 
   -- the MIR, from the entry
-  walk : (𝓣 : Tables 𝓤 H) → FmC 𝓤 H (W .laws) (𝓣 .C) → Triple 𝓤 (𝓣 .C #admission·begin) (Begin 𝓤 H A at-mem runs″) → Triple 𝓤 (𝓣 .C #turns·turn) (Turn 𝓤 H A at-mem runs″)
+  walk : (𝓣 : Tables 𝓤 H) → FmC 𝓤 H (W .laws) (𝓣 .C) → Triple 𝓤 (𝓣 .C #turns·begin) (Begin 𝓤 H A at-mem runs″) → Triple 𝓤 (𝓣 .C #turns·turn) (Turn 𝓤 H A at-mem runs″)
       → ent 𝓤 (onEntry 𝓤 H A play.signature (κ₀, (κ₁, (κ₂, tt))) (q₀, (q₁, (q₂, tt))) a at) (WpFn 𝓤 H (𝓣 .C) (𝓣 .Λ) code.function (v₀ ∷ v₁ ∷ val w₀ ∷ v₂ ∷ []) Post)
   walk 𝓣 fm known-Begin known-Turn =
       qed W ((‵ (flft κ₀ q₀) ⊛ ‵ (flft κ₁ q₁) ⊛ ‵ (flft κ₂ q₂) ⊛ ‵ ftrue) ∷ ‵ (owns (MutSlice (named 0) κ₀ u8 ∷ MutSlice (named 1) κ₁ u8 ∷ S.the-row ∷ ShrSlice (named 2) κ₂ E.the-row ∷ []) a at) ∷ []) ∵ enter ! (𝓣 .C) (𝓣 .Λ) code.function (v₀ ∷ v₁ ∷ val w₀ ∷ v₂ ∷ []) _ $
@@ -426,7 +436,7 @@ module _ {M : Type 1} (𝓤 : URA M) (H : Heap 𝓤) (A : Atoms 𝓤) (W : Given
       move ! (39 ∷ []) $ fsplit ! $ move ! (1 ∷ []) $ fsplit ! $ move ! (1 ∷ []) $ fsplit ! $ drop ! $ fsplit ! $ move ! (42 ∷ []) $ split ! $ move ! (1 ∷ []) $ split ! $ move ! (1 ∷ []) $ split ! $
       keep ! (7 ∷ 3 ∷ 6 ∷ 2 ∷ 4 ∷ 0 ∷ 8 ∷ 9 ∷ 10 ∷ 11 ∷ 12 ∷ 13 ∷ 14 ∷ 15 ∷ 16 ∷ 17 ∷ 18 ∷ 19 ∷ 20 ∷ 21 ∷ 22 ∷ 23 ∷ 24 ∷ 25 ∷ 26 ∷ 27 ∷ 28 ∷ 29 ∷ 30 ∷ 31 ∷ 32 ∷ 33 ∷ 34 ∷ 35 ∷ 36 ∷ 37 ∷ 38 ∷ 39 ∷ 40 ∷ 41 ∷ 42 ∷ 43 ∷ 44 ∷ 45 ∷ []) $ begins 𝓣 fm known-Begin known-Turn l₀ l₁ l₂ l₃ l₄ l₅ l₆ l₇ l₈ l₉ l₁₀ l₁₁ l₁₂ l₁₃ l₁₄ l₁₅ l₁₆ l₁₇ l₁₈)))))))))))))))))))
 
-module _ {M : Type 1} (𝓤 : URA M) (H : Heap 𝓤) (A : Atoms 𝓤) (W : Given 𝓤 H A) (mem : Memory → SProp 𝓤) (runs″ : Routine → Fun 𝓤) (𝓣 : Tables 𝓤 H) (known-begin : Triple 𝓤 (𝓣 .C #admission·begin) (Begin 𝓤 H A mem runs″)) (known-turn : Triple 𝓤 (𝓣 .C #turns·turn) (Turn 𝓤 H A mem runs″)) where
+module _ {M : Type 1} (𝓤 : URA M) (H : Heap 𝓤) (A : Atoms 𝓤) (W : Given 𝓤 H A) (mem : Memory → SProp 𝓤) (runs″ : Routine → Fun 𝓤) (𝓣 : Tables 𝓤 H) (known-begin : Triple 𝓤 (𝓣 .C #turns·begin) (Begin 𝓤 H A mem runs″)) (known-turn : Triple 𝓤 (𝓣 .C #turns·turn) (Turn 𝓤 H A mem runs″)) where
   play-walks : Walks 𝓤 H A play.ended stayed (WpFn 𝓤 H (𝓣 .C) (𝓣 .Λ) code.function) (play.clauses 𝓤 H A mem runs″)
   play-walks = walked 𝓤 H A play.ended stayed (play.clauses 𝓤 H A mem runs″) (WpFn 𝓤 H (𝓣 .C) (𝓣 .Λ) code.function)
       (λ κs. (slice-vals, (slice-vals, (LL.vals S.the-type S′.the-laws, (slice-vals, tt)))))
@@ -446,5 +456,5 @@ play-spec 𝓤 H 𝓜 𝓖 𝓡 =
     entered 𝓤 H (tripleOf 𝓤 H (𝓖 .A) play.signature (play.spec 𝓤 H (𝓖 .A) (𝓜 .mem) (𝓡 .run)))
     (tables 𝓤 H 𝓜 𝓡 code.env .C) (tables 𝓤 H 𝓜 𝓡 code.env .Λ) #playlist·play code.function (code.unfolded 𝓤 H 𝓜 𝓡)
     (play-meets 𝓤 H (𝓖 .A) (givenOf 𝓤 H 𝓜 𝓖) (𝓜 .mem) (𝓡 .run) (tablesOf 𝓤 H 𝓜 (tables 𝓤 H 𝓜 𝓡 code.env))
-    (cited 𝓤 H (Begin 𝓤 H (𝓖 .A) (𝓜 .mem) (𝓡 .run)) 𝓜 𝓡 code.env #admission·begin begin-def.routine code.calls-admission·begin (begin-thm.met 𝓤 H 𝓜 𝓖 𝓡))
+    (cited 𝓤 H (Begin 𝓤 H (𝓖 .A) (𝓜 .mem) (𝓡 .run)) 𝓜 𝓡 code.env #turns·begin begin-def.routine code.calls-turns·begin (begin-thm.met 𝓤 H 𝓜 𝓖 𝓡))
     (cited 𝓤 H (Turn 𝓤 H (𝓖 .A) (𝓜 .mem) (𝓡 .run)) 𝓜 𝓡 code.env #turns·turn turn-def.routine code.calls-turns·turn (turn-thm.met 𝓤 H 𝓜 𝓖 𝓡)))

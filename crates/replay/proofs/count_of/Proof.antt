@@ -1,5 +1,5 @@
 -- `replay::count_of` meets its contract. Assumes nothing.
-use Rattle.replay.specs.Replay.{countOf}
+use Rattle.replies.specs.Texts.{countOf}
 use borrow.Author.Needs.{needs}
 use Rattle.replay.proofs.count_of.Statement.{statement}
 use Rattle.replay.proofs.count_of.Tie as tie

@@ -1,4 +1,4 @@
--- `playlist::play_four` meets its contract: a walk of its MIR, by hand. The array is copied into memory, lent there as a slice for a lifetime of the call, and back after it. All that the proof knows of `play` is that it meets its contract.
+-- `playlist_main::play_four` meets its contract: a walk of its MIR, by hand. The array is copied into memory, lent there as a slice for a lifetime of the call, and back after it. All that the proof knows of `play` is that it meets its contract.
 -- The image and the answers go to `play` at their own lifetimes, shares and names, and are given up for good (`gave-slice`).
 -- Assumes nothing.
 use mathlib.Core.Path.{_≡_, refl, sym, subst}
@@ -45,23 +45,23 @@ use denote.Triple.Table.{entered, cited}
 use denote.Triple.Walked.{says, Stays, stay-none, gave-slice, walkOf, goes-none, goes-gave-slice, Walks, ends-at, walked, walk-meets}
 use denote.Exit.{yes}
 use Rattle.model.specs.Outcome.{Leaves, state, listOutcome}
+use Rattle.model.specs.declared.answer.Left.{Left}
 use Rattle.model.specs.declared.event.Event.{Event}
-use Rattle.turns.specs.declared.Run.{Run}
 use Rattle.model.specs.declared.lane.Working.{Working}
+use Rattle.model.proofs.answer.Left as L
+use Rattle.model.proofs.answer.Left.Laws as L′
 use Rattle.model.proofs.event.Event as E
 use Rattle.model.proofs.event.Event.Laws as E′
-use Rattle.turns.proofs.Run as R
-use Rattle.turns.proofs.Run.Laws as R′
 use Rattle.model.proofs.lane.Working as S
 use Rattle.model.proofs.lane.Working.Laws as S′
 use Rattle.playlist.proofs.play as play
 use Rattle.playlist.proofs.play.Symbol as play-def
 use Rattle.playlist.proofs.play.Symbol.{name as #playlist·play}
 use Rattle.playlist.proofs.play.Met as play-thm
-use Rattle.playlist.proofs.play_four.Key.{name as #playlist·play-four}
-use Rattle.playlist.proofs.play_four as four
-use Rattle.playlist.proofs.play_four.Statement as stated
-use Rattle.playlist.proofs.play_four.Code as code
+use Rattle.playlist_main.proofs.play_four.Key.{name as #playlist-main·play-four}
+use Rattle.playlist_main.proofs.play_four as four
+use Rattle.playlist_main.proofs.play_four.Statement as stated
+use Rattle.playlist_main.proofs.play_four.Code as code
 
 -- the array's type
 abbrev Four : RattleType
@@ -120,13 +120,13 @@ module _ {M : Type 1} (𝓤 : URA M) (H : Heap 𝓤) (A : Atoms 𝓤) (W : Given
   Post = walkOf 𝓤 H A four.ended stayed (four.clauses 𝓤 H A at-mem runs″) .post bound
 
   -- what `play` ensures
-  abbrev Said : Run → List ℕ → List ℕ → Type 0
-  Said r ys us = Leaves (listOutcome (state xs w₀) zs es) (r .left) ys us
+  abbrev Said : Left → List ℕ → List ℕ → Type 0
+  Said r ys us = Leaves (listOutcome (state xs w₀) zs es) r ys us
 
-  exits : (r : Run) (u : Val) (ys us : List ℕ) → Said r ys us → length ys ≡ length xs → length us ≡ length zs
-      → ent 𝓤 (⋆ 𝓤 H A (‵ (flft κ₀ q₀) ∷ ‵ (flft κ₁ q₁) ∷ ‵ (finally u8 γ₀ ys) ∷ ‵ (finally u8 γ₁ us) ∷ ‵ (R.the-row .own r (u ∷ [])) ∷ [])) (Post u)
+  exits : (r : Left) (u : Val) (ys us : List ℕ) → Said r ys us → length ys ≡ length xs → length us ≡ length zs
+      → ent 𝓤 (⋆ 𝓤 H A (‵ (flft κ₀ q₀) ∷ ‵ (flft κ₁ q₁) ∷ ‵ (finally u8 γ₀ ys) ∷ ‵ (finally u8 γ₁ us) ∷ ‵ (L.the-row .own r (u ∷ [])) ∷ [])) (Post u)
   exits r u ys us said len₀ len₁ =
-      qed W (‵ (flft κ₀ q₀) ∷ ‵ (flft κ₁ q₁) ∷ ‵ (finally u8 γ₀ ys) ∷ ‵ (finally u8 γ₁ us) ∷ ‵ (R.the-row .own r (u ∷ [])) ∷ []) ∵
+      qed W (‵ (flft κ₀ q₀) ∷ ‵ (flft κ₁ q₁) ∷ ‵ (finally u8 γ₀ ys) ∷ ‵ (finally u8 γ₁ us) ∷ ‵ (L.the-row .own r (u ∷ [])) ∷ []) ∵
       suffices ! _ (ends-at 𝓤 H A four.ended stayed (four.clauses 𝓤 H A at-mem runs″) W bound u r (ys, (us, (tt, (tt, tt)))) (len₀, (len₁, (tt, (tt, tt))))) $ says ! said $
       nothing ! $ move ! (2 ∷ 0 ∷ []) $ join ! $ move ! (1 ∷ 0 ∷ []) $ join ! $ frame ! $
       -- [the image's last list; the answers'; the result]
@@ -195,11 +195,11 @@ module _ {M : Type 1} (𝓤 : URA M) (H : Heap 𝓤) (A : Atoms 𝓤) (W : Given
         -- [the events; the lender's part; ν's token; the answers' token; true; the image's token; the answers; the image; the locals, but that the array's cell is lent]
         move ! (0 ∷ 2 ∷ 6 ∷ 3 ∷ 7 ∷ 5 ∷ []) $ group ! 6 $ use1 W (raw (Play 𝓤 H A at-mem runs″ .pre (to-play l₅ ν γ))) (goes l₅ ν γ) $
         calls-at ! fm (Play 𝓤 H A at-mem runs″) known (to-play l₅ ν γ) (and-then ! (load ! (from ! (stop !)) (look ! 11 refl)) (and-then ! (load ! (from ! (stop !)) (look ! 7 refl)) (and-then ! (load ! (from ! (stop !)) (look ! 18 refl)) (and-then ! (load ! (from ! (stop !)) (look ! 3 refl)) (no-more !))))) (λ u.
-        use1 W (later (some (λ (r : Run). ((‵ (flft κ₀ q₀) ⊛ ‵ (flft κ₁ q₁) ⊛ ‵ (flft (ν ∷ []) fullShare) ⊛ ‵ ftrue) ⊛ ‵ (R.the-row .own r (u ∷ []))) ⊛ raw (ensured 𝓤 H A play.ended (play.clauses 𝓤 H A at-mem runs″) (κ₀, (κ₁, (ν ∷ [], tt))) (passed l₅ ν γ) tt r)))) (id⊢ 𝓤 _) $ await ! tt $ pick ! (λ r.
+        use1 W (later (some (λ (r : Left). ((‵ (flft κ₀ q₀) ⊛ ‵ (flft κ₁ q₁) ⊛ ‵ (flft (ν ∷ []) fullShare) ⊛ ‵ ftrue) ⊛ ‵ (L.the-row .own r (u ∷ []))) ⊛ raw (ensured 𝓤 H A play.ended (play.clauses 𝓤 H A at-mem runs″) (κ₀, (κ₁, (ν ∷ [], tt))) (passed l₅ ν γ) tt r)))) (id⊢ 𝓤 _) $ await ! tt $ pick ! (λ r.
         split ! $ move ! (1 ∷ []) $ use1 W (some (λ (ls : List ℕ × (List ℕ × (Unit {0} × (Unit {0} × Unit {0})))). ‵ (lasts play.ended (κ₀, (κ₁, (ν ∷ [], tt))) (passed l₅ ν γ) ls) ⊛ raw (fact 𝓤 (Said r (ls .0) (ls .1 .0))))) (id⊢ 𝓤 _) $ pick ! (λ ls.
         split ! $ move ! (1 ∷ []) $ heard ! (Said r (ls .0) (ls .1 .0)) (λ said. fsplit ! $ fsplit ! $ move ! (1 ∷ []) $ feqL ! (λ len₀. move ! (1 ∷ []) $ fsplit ! $ fsplit ! $ move ! (1 ∷ []) $ feqL ! (λ len₁.
-        move ! (3 ∷ []) $ split ! $ move ! (1 ∷ []) $ peeks ! R.the-row (Is R.the-row) (shows 𝓤 H A R.the-row) r (u ∷ []) (λ fits.
-        land ! (from ! (stop !)) (init ! 28 refl (LL.lawful R.the-type R′.the-laws 𝓤 H A W .typed r _ fits .0)) $
+        move ! (3 ∷ []) $ split ! $ move ! (1 ∷ []) $ peeks ! L.the-row (Is L.the-row) (shows 𝓤 H A L.the-row) r (u ∷ []) (λ fits.
+        land ! (from ! (stop !)) (init ! 28 refl (LL.lawful L.the-type L′.the-laws 𝓤 H A W .typed r _ fits .0)) $
         move ! (1 ∷ []) $ split ! $ move ! (1 ∷ []) $ split ! $ move ! (1 ∷ []) $ split ! $ lft-end ! tt $ move ! (0 ∷ 8 ∷ []) $ lent-back ! tt $
         rewrite ! 0 (λ (n : ℕ). ‵ (arr-parts (shares E.the-row) n .part fullShare es l₅ 0)) four-long refl $ use1 W (‵ (partAt Four fullShare es l₅ 0)) (array-whole 𝓤 H A W E.the-row fullShare 4 es l₅ 0) $ use1 W (‵ (fat fullShare arr l₅ 0 va)) (lifted l₅) $
         -- [_5; true; the answers' token; the image's; the result; the answers' last list; …; the image's; true; _11; …]
@@ -229,6 +229,6 @@ pub play-four-spec : {M : Type 1} → stated.statement M
 unfolding code.routine tablesOf
 play-four-spec 𝓤 H 𝓜 𝓖 𝓡 =
     entered 𝓤 H (tripleOf 𝓤 H (𝓖 .A) four.signature (four.spec 𝓤 H (𝓖 .A) (𝓜 .mem) (𝓡 .run)))
-    (tables 𝓤 H 𝓜 𝓡 code.env .C) (tables 𝓤 H 𝓜 𝓡 code.env .Λ) #playlist·play-four code.function (code.unfolded 𝓤 H 𝓜 𝓡)
+    (tables 𝓤 H 𝓜 𝓡 code.env .C) (tables 𝓤 H 𝓜 𝓡 code.env .Λ) #playlist-main·play-four code.function (code.unfolded 𝓤 H 𝓜 𝓡)
     (four-meets 𝓤 H (𝓖 .A) (givenOf 𝓤 H 𝓜 𝓖) (𝓜 .mem) (𝓡 .run) (tablesOf 𝓤 H 𝓜 (tables 𝓤 H 𝓜 𝓡 code.env))
     (cited 𝓤 H (Play 𝓤 H (𝓖 .A) (𝓜 .mem) (𝓡 .run)) 𝓜 𝓡 code.env #playlist·play play-def.routine code.calls-playlist·play (play-thm.met 𝓤 H 𝓜 𝓖 𝓡)))

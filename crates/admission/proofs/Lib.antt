@@ -1,2 +1,0 @@
--- The admission of a list.
-pub mod Admitted
