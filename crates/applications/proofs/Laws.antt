@@ -13,7 +13,7 @@ use Rattle.bits.specs.Loop.{allBelow}
 use Rattle.bits.specs.Number.{field}
 use Rattle.bits.proofs.Loops.{tab-at}
 use Rattle.bits.proofs.Tests.{pick-true, pick-false, and-both}
-use Rattle.model.specs.Map.{Image}
+use Rattle.model.specs.Map.{Image, imageLength}
 use Rattle.model.specs.Applications.{applicationCount, firstOnPage, descriptorAt, listReaches, hostLaneCount, isPresent, lookup}
 use Rattle.model.specs.View.{applicationsOf, applicationIn}
 use Rattle.model.specs.declared.application.Lookup.the-variants.{Missing, Found}
@@ -26,7 +26,7 @@ and-three true false c = refl
 and-three false b c = refl
 
 -- the last byte of a descriptor lies in the image
-pub descriptor-fits : {a at : ℕ} → at ≡ descriptorAt a → a ≤ applicationCount → at + 3 < 768
+pub descriptor-fits : {a at : ℕ} → at ≡ descriptorAt a → a ≤ applicationCount → at + 3 < imageLength
 descriptor-fits {a} e h = elim (decLt a firstOnPage) [
   | yes p ↦ omega (arith, in-lower a p)
   | no n ↦ omega (arith, on-page a (omega arith))

@@ -3,28 +3,30 @@ ghost use mathlib.Core.Path.{_≡_};
 ghost use Prim.Native.Nat.{_≤_};
 ghost use lib.ListN.{length};
 ghost use Rattle.model.specs.Applications.{descriptorAt, listReaches, lookup};
+ghost use Rattle.model.specs.Map.{imageLength};
 use model::application::Descriptor;
 use model::application::Lookup;
+use model::lane::LaneRecord;
 
 // Lower 86: where descriptor 1 stands.
-pub const DESCRIPTORS: usize = 86;
+const DESCRIPTORS: usize = 86;
 
 // 01h:223: where the first descriptor on page 01h stands, and its number.
-pub const MORE_DESCRIPTORS: usize = 351;
+const MORE_DESCRIPTORS: usize = 351;
 
-pub const FIRST_ON_PAGE: u8 = 9;
+const FIRST_ON_PAGE: u8 = 9;
 
 // The bytes of a descriptor.
-pub const SIZE: usize = 4;
+const SIZE: usize = 4;
 
 // How many descriptors there are.
-pub const COUNT: u8 = 15;
+const COUNT: u8 = 15;
 
 // What a descriptor that ends the list begins with.
-pub const END: u8 = 255;
+const END: u8 = 255;
 
 // Where the descriptor of an Application begins.
-pub fn descriptor_at(app: u8) -> usize
+fn descriptor_at(app: u8) -> usize
     requires { ⌜ 1 ≤ app ⌝ }
     ensures { λ r. ⌜ r ≡ descriptorAt app ⌝ }
 {
@@ -35,8 +37,8 @@ pub fn descriptor_at(app: u8) -> usize
 }
 
 // Whether no descriptor from 1 to app begins with FFh.
-pub fn list_reaches(image: &[u8], app: u8) -> bool
-    requires { ⌜ (length (now image) ≡ 768) × (app ≤ 15) ⌝ }
+fn list_reaches(image: &[u8], app: u8) -> bool
+    requires { ⌜ (length (now image) ≡ imageLength) × (app ≤ 15) ⌝ }
     ensures { λ r. ⌜ r ≡ listReaches (now (image .entry)) app ⌝ }
 {
     let mut reaches = true;
@@ -49,7 +51,7 @@ pub fn list_reaches(image: &[u8], app: u8) -> bool
 
 // The descriptor of an Application, if it is present.
 pub fn look_up(image: &[u8], app: u8) -> Lookup
-    requires { ⌜ length (now image) ≡ 768 ⌝ }
+    requires { ⌜ length (now image) ≡ imageLength ⌝ }
     ensures { λ r. ⌜ r ≡ lookup (now (image .entry)) app ⌝ }
 {
     if app == 0 {
@@ -61,7 +63,7 @@ pub fn look_up(image: &[u8], app: u8) -> Lookup
     let at = descriptor_at(app);
     let reaches = list_reaches(image, app);
     let count = bits::take_field(image[at + 2], 4, 4);
-    if reaches & (1 <= count) & (count <= 8) {
+    if reaches & (1 <= count) & (count <= LaneRecord::COUNT) {
         let firsts = image[at + 3];
         return Lookup::Found(Descriptor { count, firsts });
     }

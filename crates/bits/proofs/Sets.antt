@@ -4,6 +4,7 @@ use mathlib.Core.Bool.{Bool, true, false, not}
 use mathlib.Core.Logic.{_⊎_, inl, inr}
 use mathlib.Core.List.{List}
 use Prim.Native.Nat.{ℕ, _+_, _-_, _*_, _/_, _%_, _^_, _≤_, _<_}
+use native.Mathlib.Nat.{zero-div, zero-mod, zero-mul, one-mul}
 use native.Mathlib.Decide.{decLt, ℕ-discrete}
 use native.Mathlib.Omega.{arith}
 use borrow.Author.Tests.{not-true, eqb-false, eq-eqb, ne-eqb, lt-ltb, le-ltb}
@@ -11,14 +12,14 @@ use mir.Val.{boolByte}
 use lib.Bits.{bitAnd, bitOr, and-lt, or-lt, and-le-l}
 use lib.Dec.{eqb, ltb}
 use lib.ListN.{getD}
-use lib.Pow.{pow-mono, ones-lt, ones-sub-lt}
-use Rattle.bits.specs.Choice.{both, either, implies}
+use lib.Pow.{pow-lt, pow-mono, ones-lt, ones-sub-lt}
+use Rattle.bits.specs.Choice.{pick, both, either, implies}
 use Rattle.bits.specs.Lane.{laneField}
 use Rattle.bits.specs.Loop.{anyBelow, allBelow}
 use Rattle.bits.specs.Number.{field, withField}
 use Rattle.bits.specs.Place.{get}
 use Rattle.bits.specs.Sets.{has, maskOf}
-use Rattle.bits.proofs.Tests.{split, clash, bool-eq, not-not, no-exception}
+use Rattle.bits.proofs.Tests.{split, clash, bool-eq, not-not, no-exception, choose, either-pick, either-none}
 use Rattle.bits.proofs.Number.{digit-zero-or-one, digit-and, digit-or, other, stays}
 use Rattle.bits.proofs.Loops.{any-none, any-find, any-ext, not-any, all-ext}
 use Rattle.bits.proofs.Masks.{set-ext, has-put, has-put-other, has-none, mask-lt, has-mask, mask-ext, mask-of-has}
@@ -64,13 +65,38 @@ has-below k l = elim (decLt l k) [
   | no h ↦ rw (le-ltb l k (omega arith)) (has-none (2 ^ k - 1) k l (ones-lt k) (omega arith))
 ]
 
--- a set with one more lane
-pub has-with : (g l m : ℕ) → has (withField g l 1 (boolByte true)) m ≡ either (eqb l m) (has g m)
-unfolding either
-has-with g l m = elim (ℕ-discrete m l) [
-  | yes e ↦ rw (e, eq-eqb l l refl, either) (has-put g l true)
-  | no e ↦ rw (ne-eqb l m (λ q. e (sym q)), either) (has-put-other g l true m e)
+-- a set with one lane put in or taken out
+has-chosen : (g l m : ℕ) (b : Bool) → has (withField g l 1 (boolByte b)) m ≡ pick (eqb l m) b (has g m)
+unfolding pick
+has-chosen g l m b = elim (ℕ-discrete m l) [
+  | yes e ↦ rw (e, eq-eqb l l refl, pick) (has-put g l b)
+  | no e ↦ rw (ne-eqb l m (λ q. e (sym q)), pick) (has-put-other g l b m e)
 ]
+
+pub has-with : (g l m : ℕ) → has (withField g l 1 (boolByte true)) m ≡ either (eqb l m) (has g m)
+has-with g l m = has-chosen g l m true ∙ sym (either-pick (eqb l m) (has g m))
+
+-- a power has one lane
+has-power : (l m : ℕ) (b : Bool) → has (boolByte b * 2 ^ l) m ≡ both b (eqb l m)
+unfolding withField either both
+has-power l m true =
+    let e : withField 0 l 1 1 ≡ 1 * 2 ^ l = rw (zero-div, zero-mod) (omega arith) in
+    ap (λ k. has k m) (sym e) ∙ has-with 0 l m ∙ rw (has-zero m) (either-none (eqb l m))
+has-power l m false = rw zero-mul (has-zero m)
+
+-- one lane replaced: cleared, then set where it is to be in
+pub put-lane : (n g l : ℕ) (b : Bool) → g < 2 ^ n → l < n → bitOr (bitAnd g (2 ^ n - 1 - 2 ^ l)) (boolByte b * 2 ^ l) ≡ withField g l 1 (boolByte b)
+unfolding both either
+put-lane n g l b h k = set-ext _ _ (λ m. has-or (bitAnd g c) (boolByte b * 2 ^ l) m ∙ ap₂ either (has-and g c m) (has-power l m b) ∙ chosen m ∙ sym (has-chosen g l m b))
+  where
+    c : ℕ
+    c = 2 ^ n - 1 - 2 ^ l
+
+    chosen : (m : ℕ) → either (both (has g m) (has c m)) (both b (eqb l m)) ≡ pick (eqb l m) b (has g m)
+    chosen m = elim (decLt m n) [
+      | yes d ↦ rw (has-rest n (2 ^ l) m (pow-lt k) d, ← (one-mul (2 ^ l)), has-power l m true, both) (choose (eqb l m) b (has g m))
+      | no d ↦ rw (has-none g n m h (omega arith), both, ne-eqb l m (omega arith)) (choose false b false)
+    ]
 
 -- a lane's bit of a byte is the byte's digit
 pub bit-has : (x : List ℕ) (at l : ℕ) → l < 8 → eqb (get x (laneField at 1 l)) 1 ≡ has (getD x at 0) l

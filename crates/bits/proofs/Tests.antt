@@ -109,11 +109,44 @@ module _ {ℓ} {A : Type ℓ} {b : Bool} where
   unfolding onlyIf
   only-false f x e = rw (e, onlyIf)
 
+-- a choice of tests
+pub choose : (t a b : Bool) → either (both b (not t)) (both a t) ≡ pick t a b
+unfolding both either pick
+choose true true true = refl
+choose true true false = refl
+choose true false true = refl
+choose true false false = refl
+choose false true true = refl
+choose false true false = refl
+choose false false true = refl
+choose false false false = refl
+
+pub either-pick : (t b : Bool) → either t b ≡ pick t true b
+unfolding either pick
+either-pick true b = refl
+either-pick false b = refl
+
+pub either-none : (t : Bool) → either t false ≡ t
+unfolding either
+either-none true = refl
+either-none false = refl
+
 -- the code's `&` and `|`
 pub and-both : (a b : Bool) → (a && b) ≡ both a b
 unfolding both
 and-both true b = refl
 and-both false b = refl
+
+-- .. seven in a row
+pub and-seven : (a b c d e f g : Bool) → ((((((a && b) && c) && d) && e) && f) && g) ≡ both (both (both (both (both (both a b) c) d) e) f) g
+unfolding both
+and-seven false b c d e f g = refl
+and-seven true false c d e f g = refl
+and-seven true true false d e f g = refl
+and-seven true true true false e f g = refl
+and-seven true true true true false f g = refl
+and-seven true true true true true false g = refl
+and-seven true true true true true true g = refl
 
 pub or-either : (a b : Bool) → (a || b) ≡ either a b
 unfolding either

@@ -2,7 +2,9 @@
 ghost use mathlib.Core.Path.{_≡_};
 ghost use Prim.Native.Nat.{_+_, _≤_, _<_};
 ghost use lib.ListN.{length};
-ghost use Rattle.model.specs.Flags.{isConditionFlag, conditionSet, power, raised, sampled};
+ghost use Rattle.model.specs.Flags.{isConditionFlag, conditionImage, power, raisedImage, sampledImage};
+ghost use Rattle.model.specs.Map.{imageLength};
+ghost use Rattle.bits.specs.Sets.{laneCount};
 
 // Page 11h: the flags that a sample may raise, and where samples are stored.
 const HIGH_ALARM_FLAG: u8 = 149;
@@ -25,40 +27,40 @@ pub fn is_condition_flag(flag: u8) -> bool
 
 // A condition sets the mask's bits of its flag byte.
 pub fn condition(image: &mut [u8], flag: u8, mask: u8)
-    requires { ⌜ (length (now image) ≡ 768) × (128 ≤ flag) ⌝ }
-    ensures { λ _. ⌜ now (image .exit) ≡ conditionSet flag mask (now (image .entry)) ⌝ }
+    requires { ⌜ (length (now image) ≡ imageLength) × (128 ≤ flag) ⌝ }
+    ensures { λ _. ⌜ now (image .exit) ≡ conditionImage flag mask (now (image .entry)) ⌝ }
 {
-    lanes::set_bits(image, map::on(map::PAGE_11, flag), mask)
+    bits_lanes::set_bits(image, map::on(map::PAGE_11, flag), mask)
 }
 
 // A lane's bit of a flag byte, set where the test holds.
-pub fn raise(image: &mut [u8], test: bool, flag: u8, lane: u8)
-    requires { ⌜ (length (now image) ≡ 768) × (128 ≤ flag) × (lane < 8) ⌝ }
-    ensures { λ _. ⌜ now (image .exit) ≡ raised test flag lane (now (image .entry)) ⌝ }
+fn raise(image: &mut [u8], test: bool, flag: u8, lane: u8)
+    requires { ⌜ (length (now image) ≡ imageLength) × (128 ≤ flag) × (lane < laneCount) ⌝ }
+    ensures { λ _. ⌜ now (image .exit) ≡ raisedImage test flag lane (now (image .entry)) ⌝ }
 {
     if test {
-        lanes::put_lane_bit(image, map::on(map::PAGE_11, flag), lane, 1);
+        bits_lanes::put_lane_bit(image, map::on(map::PAGE_11, flag), lane, 1);
     }
 }
 
 // A limit of received power: two bytes, the high one first.
-pub fn limit(image: &[u8], at: usize) -> u16
+fn limit(image: &[u8], at: usize) -> u16
     requires { ⌜ at + 2 ≤ length (now image) ⌝ }
     ensures { λ r. ⌜ r ≡ power (now (image .entry)) at ⌝ }
 {
-    words::word2(image, at)
+    bits_words::word2(image, at)
 }
 
 // A sample of received power: stored, and compared with the four limits.
 pub fn sample(image: &mut [u8], lane: u8, power: u16)
-    requires { ⌜ (length (now image) ≡ 768) × (lane < 8) ⌝ }
-    ensures { λ _. ⌜ now (image .exit) ≡ sampled lane power (now (image .entry)) ⌝ }
+    requires { ⌜ (length (now image) ≡ imageLength) × (lane < laneCount) ⌝ }
+    ensures { λ _. ⌜ now (image .exit) ≡ sampledImage lane power (now (image .entry)) ⌝ }
 {
     let high_alarm = limit(image, map::HIGH_ALARM);
     let low_alarm = limit(image, map::LOW_ALARM);
     let high_warning = limit(image, map::HIGH_WARNING);
     let low_warning = limit(image, map::LOW_WARNING);
-    words::put_word2(image, RECEIVED_POWER + 2 * (lane as usize), power);
+    bits_words::put_word2(image, RECEIVED_POWER + 2 * (lane as usize), power);
     raise(image, high_alarm < power, HIGH_ALARM_FLAG, lane);
     raise(image, power < low_alarm, LOW_ALARM_FLAG, lane);
     raise(image, high_warning < power, HIGH_WARNING_FLAG, lane);

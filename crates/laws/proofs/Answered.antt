@@ -13,12 +13,12 @@ use Rattle.bits.specs.Loop.{allBelow}
 use Rattle.bits.proofs.Tests.{split, clash, implies-use}
 use Rattle.bits.proofs.Loops.{all-at}
 use Rattle.model.specs.Answers.{number, isDone}
-use Rattle.model.specs.Triggers.{State}
-use Rattle.model.specs.Step.{step, answered, done, refused}
+use Rattle.model.specs.State.{State}
+use Rattle.model.specs.Step.{step, answeredStep, doneStep, refusedStep}
 use Rattle.model.specs.Work.{early}
 use Rattle.model.specs.Sound.{isSound}
 use Rattle.model.specs.Refusals.{Refusal, refuse, firstOf, wrongLength, isFlat, imageRefusals, startRefusals, entryRefusals, eventRefusals, listRefusals}
-use Rattle.model.specs.Outcome.{startBy, startOutcome, stepOutcome, callBy, callOutcome, listBy, listOutcome, unchanged}
+use Rattle.model.specs.Outcome.{startOutcomeBy, startOutcome, stepOutcome, callOutcomeBy, callOutcome, listOutcomeBy, listOutcome, unchangedOutcome}
 use Rattle.model.specs.declared.answer.Answer.{Answer}
 use Rattle.model.specs.declared.answer.Answer.the-variants.{Done}
 use Rattle.model.specs.declared.event.Call.{Call}
@@ -86,7 +86,7 @@ asked-call s buffer bytes (Sample l p) = refl
 
 -- a step answers what the event's refusals say
 pub step-answer : (room : ℕ) (s : State) (e : Event) → step early room s e .answer ≡ firstOf (eventRefusals room s (e .call))
-unfolding step answered done refused pick
+unfolding step answeredStep doneStep refusedStep pick
 step-answer room s e = split (isDone (firstOf (eventRefusals room s (e .call)))) (λ d. rw (d, pick)) (λ d. rw (d, pick))
 
 -- refusals 1, 2 and 3 come before those of the event
@@ -99,18 +99,18 @@ entry-first s rs = split (wrongLength (s .image)) (λ d. rw (d, pick, isDone))
 
 call-answer : (s : State) (buffer : List ℕ) (e : Event)
     → callOutcome s buffer e .answer ≡ firstOf (entryRefusals s ++ eventRefusals (length buffer) s (e .call))
-unfolding callOutcome callBy stepOutcome unchanged pick
+unfolding callOutcome callOutcomeBy stepOutcome unchangedOutcome pick
 call-answer s buffer e = rw entry-first (split (isDone (firstOf (entryRefusals s)))
     (λ d. rw (d, pick) (step-answer (length buffer) s e)) (λ d. rw (d, pick)))
 
 -- a list of events answers what its refusals say
 pub list-answer : (s : State) (answers : List ℕ) (es : List Event) → listOutcome s answers es .answer ≡ firstOf (listRefusals (length answers) s (length es))
-unfolding listOutcome listBy unchanged pick
+unfolding listOutcome listOutcomeBy unchangedOutcome pick
 list-answer s answers es = split (isDone (firstOf (listRefusals (length answers) s (length es)))) (λ d. rw (d, pick)) (λ d. rw (d, pick))
 
 -- the answer is the first in the order whose condition holds
 first-asked : (q : Asked) → outcomeOf q .answer ≡ first (holds q) order
-unfolding outcomeOf startOutcome startBy first firstOf pick imageRefusals startRefusals entryRefusals listRefusals givenState holds turnedLimits isUnsound ofEvent shortBuffer
+unfolding outcomeOf startOutcome startOutcomeBy first firstOf pick imageRefusals startRefusals entryRefusals listRefusals givenState holds turnedLimits isUnsound ofEvent shortBuffer
 first-asked (start x) = refl
 first-asked (call s buffer e) = call-answer s buffer e ∙ asked-call s buffer (e .bytes) (e .call)
 first-asked (list s answers es) = list-answer s answers es

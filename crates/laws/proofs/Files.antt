@@ -16,8 +16,8 @@ use Rattle.bits.proofs.Loops.{all-at}
 use Rattle.model.specs.Map.{imageLength}
 use Rattle.model.specs.Answers.{number, isDone}
 use Rattle.model.specs.Refusals.{firstOf, isFlat, isBackToFront, wrongLength, imageRefusals, startRefusals}
-use Rattle.model.specs.Outcome.{startBy, startOutcome}
-use Rattle.model.specs.File.{recordsOffset, recordLength, recordLimit, imageOffset, recordCount, isHeader, isWholeLength, imageIn, recordByte, kindOf, writeKind, readKind, workKind, hardwareKind, conditionKind, sampleKind, dataLimit, usedBytes, isRecord, isWellFormed, foundBy, checked}
+use Rattle.model.specs.Outcome.{startOutcomeBy, startOutcome}
+use Rattle.model.specs.File.{recordsOffset, recordLength, recordLimit, imageOffset, recordCount, isHeader, isWholeLength, imageIn, recordByte, kindOf, writeKind, readKind, workKind, hardwareKind, conditionKind, sampleKind, dataLimit, usedBytes, isRecord, isWellFormed, fileCheckBy, fileCheck}
 use Rattle.model.specs.declared.answer.Answer.the-variants.{WrongLength, FlatMemory, Malformed, BackToFront}
 use Rattle.model.specs.declared.file.FileCheck.{FileCheck}
 use Rattle.model.specs.declared.file.FileCheck.the-variants.{Refused, Good}
@@ -192,22 +192,22 @@ module _ (file : List ℕ) where
         (omega (arith, length-take imageLength (drop imageOffset file), length-drop imageOffset file, its-length)))
 
     -- .. and what start asks of it is what is found
-    found-flat : isFlat (imageIn file) ≡ true → checked file ≡ Refused FlatMemory
-    unfolding checked foundBy startRefusals imageRefusals firstOf isDone pick
+    found-flat : isFlat (imageIn file) ≡ true → fileCheck file ≡ Refused FlatMemory
+    unfolding fileCheck fileCheckBy startRefusals imageRefusals firstOf isDone pick
     found-flat e = rw (formed, its-image, e)
 
-    found-turned : isFlat (imageIn file) ≡ false → isBackToFront (imageIn file) ≡ true → checked file ≡ Refused BackToFront
-    unfolding checked foundBy startRefusals imageRefusals firstOf isDone pick
+    found-turned : isFlat (imageIn file) ≡ false → isBackToFront (imageIn file) ≡ true → fileCheck file ≡ Refused BackToFront
+    unfolding fileCheck fileCheckBy startRefusals imageRefusals firstOf isDone pick
     found-turned e f = rw (formed, its-image, e, f)
 
-    found-good : isFlat (imageIn file) ≡ false → isBackToFront (imageIn file) ≡ false → checked file ≡ Good (recordCount file)
-    unfolding checked foundBy startRefusals imageRefusals firstOf isDone pick
+    found-good : isFlat (imageIn file) ≡ false → isBackToFront (imageIn file) ≡ false → fileCheck file ≡ Good (recordCount file)
+    unfolding fileCheck fileCheckBy startRefusals imageRefusals firstOf isDone pick
     found-good e f = rw (formed, its-image, e, f)
 
   -- ---- what is found
 
-  found-fault : isWellFormed file ≡ false → checked file ≡ Refused Malformed
-  unfolding checked pick
+  found-fault : isWellFormed file ≡ false → fileCheck file ≡ Refused Malformed
+  unfolding fileCheck pick
   found-fault e = rw e
 
   formed-file : (Fault file → ⊥) → isWellFormed file ≡ true
@@ -216,7 +216,7 @@ module _ (file : List ℕ) where
   faulty-file : Fault file → isWellFormed file ≡ false
   faulty-file f = split (isWellFormed file) (λ e. absurd (no-fault e f)) (λ e. e)
 
-  found : Found file (checked file)
+  found : Found file (fileCheck file)
   found = split (isWellFormed file)
       (λ w. split (isFlat (imageIn file))
       (λ e. rw (found-flat w e) (flat (no-fault w) e))
@@ -225,14 +225,14 @@ module _ (file : List ℕ) where
       (λ f. rw (found-good w e f) (good (no-fault w) e f))))
       (λ w. rw (found-fault w) (malformed (a-fault w)))
 
-  is-found : {r : FileCheck} → Found file r → checked file ≡ r
+  is-found : {r : FileCheck} → Found file r → fileCheck file ≡ r
   is-found (malformed f) = found-fault (faulty-file f)
   is-found (flat n e) = found-flat (formed-file n) e
   is-found (backToFront n e f) = found-turned (formed-file n) e f
   is-found (good n e f) = found-good (formed-file n) e f
 
   -- the check of a file finds each result exactly when 01 says so, and no other
-  pub checked-exactly : (r : FileCheck) → (checked file ≡ r) ↔ Found file r
+  pub checked-exactly : (r : FileCheck) → (fileCheck file ≡ r) ↔ Found file r
   checked-exactly r = (λ e. subst (Found file) e found, is-found)
 
   found-number : {r : FileCheck} → Found file r → (numberIn r ≡ 9 → Fault file) × (numberIn r ≢ 1)
@@ -242,14 +242,14 @@ module _ (file : List ℕ) where
   found-number (good n h i) = (λ e. absurd (omega arith), λ e. omega arith)
 
   -- 9 exactly where there is a fault
-  pub malformed-exactly : (checked file ≡ Refused Malformed) ↔ Fault file
+  pub malformed-exactly : (fileCheck file ≡ Refused Malformed) ↔ Fault file
   malformed-exactly = (λ e. found-number found .0 (ap numberIn e), λ f. is-found (malformed f))
 
   -- a file with no fault is answered as start answers to its image ..
-  pub file-as-start : (Fault file → ⊥) → checked file ≡ foundBy (startOutcome (imageIn file) .answer) file
-  unfolding checked startOutcome startBy pick
+  pub file-as-start : (Fault file → ⊥) → fileCheck file ≡ fileCheckBy (startOutcome (imageIn file) .answer) file
+  unfolding fileCheck startOutcome startOutcomeBy pick
   file-as-start n = rw (formed-file n)
 
   -- .. and none with 1
-  pub never-1 : checked file ≢ Refused WrongLength
+  pub never-1 : fileCheck file ≢ Refused WrongLength
   never-1 e = found-number found .1 (ap numberIn e)

@@ -1,4 +1,4 @@
--- The laws of answers: the refusal list, what a refusal leaves, and that a contract admits one outcome.
+-- The laws of answers: the refusal list of calls and files, what a refusal and a read leave, and that a contract admits one outcome.
 pub mod Answered
 pub mod Files
 pub mod Printed

@@ -8,12 +8,12 @@ use lib.Dec.{eqb}
 use lib.ListN.{getD}
 use Rattle.bits.specs.Choice.{pick}
 use Rattle.model.specs.Answers.{number}
-use Rattle.model.specs.Step.{Out}
-use Rattle.model.specs.File.{checked}
+use Rattle.model.specs.Step.{Stepped}
+use Rattle.model.specs.File.{fileCheck}
 use Rattle.model.specs.Text.{ascii, newline, digitText, decimalUpTo, decimal, line, badLine}
-use Rattle.model.specs.Night.{linesFrom, nightOf, printedBy, printed}
+use Rattle.model.specs.Night.{linesFrom, nightOf, printedTextBy, printedText}
 use Rattle.model.specs.declared.answer.Answer.{Answer}
-use Rattle.model.specs.declared.answer.Answer.the-variants.{Done, WrongLength, FlatMemory, Unsound, BadAccess, ShortBuffer, IdleLane, Busy, NoSuchPlace, Malformed, BackToFront}
+use Rattle.model.specs.declared.answer.Answer.the-variants.{Done, WrongLength, FlatMemory, Unsound, BadAccess, ShortBuffer, NothingToDo, Busy, NoSuchTarget, Malformed, BackToFront}
 use Rattle.model.specs.declared.file.FileCheck.{FileCheck}
 use Rattle.model.specs.declared.file.FileCheck.the-variants.{Refused, Good}
 use Rattle.laws.specs.Files.{Fault}
@@ -31,9 +31,9 @@ shownNumber text = pick (eqb (getD text 5 0) newline) (byDigit (getD text 4 0)) 
         (pick (eqb d 0x33) Unsound
         (pick (eqb d 0x34) BadAccess
         (pick (eqb d 0x35) ShortBuffer
-        (pick (eqb d 0x36) IdleLane
+        (pick (eqb d 0x36) NothingToDo
         (pick (eqb d 0x37) Busy
-        (pick (eqb d 0x38) NoSuchPlace Malformed))))))))
+        (pick (eqb d 0x38) NoSuchTarget Malformed))))))))
 
 shown-back : (a : Answer) → shownNumber (badLine (number a)) ≡ a
 unfolding shownNumber badLine ascii decimal decimalUpTo digitText pick
@@ -43,9 +43,9 @@ shown-back FlatMemory = refl
 shown-back Unsound = refl
 shown-back BadAccess = refl
 shown-back ShortBuffer = refl
-shown-back IdleLane = refl
+shown-back NothingToDo = refl
 shown-back Busy = refl
-shown-back NoSuchPlace = refl
+shown-back NoSuchTarget = refl
 shown-back Malformed = refl
 shown-back BackToFront = refl
 
@@ -54,24 +54,24 @@ first-of-bad : (n : ℕ) → getD (badLine n) 0 0 ≡ 0x62
 unfolding badLine ascii
 first-of-bad n = refl
 
-not-bad : (os : List Out) (n : ℕ) → linesFrom 0 os ≡ badLine n → ⊥
+not-bad : (os : List Stepped) (n : ℕ) → linesFrom 0 os ≡ badLine n → ⊥
 unfolding linesFrom line decimal decimalUpTo digitText pick
 not-bad [] n e = let z : _≡_ {A = ℕ} 0 0x62 = ap (λ text. getD text 0 0) e ∙ first-of-bad n in omega arith
 not-bad (o ∷ os) n e = let z : _≡_ {A = ℕ} 0x30 0x62 = ap (λ text. getD text 0 0) e ∙ first-of-bad n in omega arith
 
 module _ (file : List ℕ) where
-  bad-back : (r : FileCheck) (a : Answer) → printedBy r file ≡ badLine (number a) → r ≡ Refused a
-  unfolding printedBy
+  bad-back : (r : FileCheck) (a : Answer) → printedTextBy r file ≡ badLine (number a) → r ≡ Refused a
+  unfolding printedTextBy
   bad-back (Refused b) a e = ap Refused (sym (shown-back b) ∙ ap shownNumber e ∙ shown-back a)
   bad-back (Good n) a e = absurd (not-bad (nightOf file) (number a) e)
 
   -- `bad` and a number is printed exactly where the check answers that number
-  pub printed-exactly : (a : Answer) → (printed file ≡ badLine (number a)) ↔ (checked file ≡ Refused a)
-  unfolding printed printedBy
-  printed-exactly a = (bad-back (checked file) a, λ e. ap (λ r. printedBy r file) e)
+  pub printed-exactly : (a : Answer) → (printedText file ≡ badLine (number a)) ↔ (fileCheck file ≡ Refused a)
+  unfolding printedText printedTextBy
+  printed-exactly a = (bad-back (fileCheck file) a, λ e. ap (λ r. printedTextBy r file) e)
 
   -- `bad 9` exactly where the file has a fault
-  pub printed-malformed : (printed file ≡ badLine 9) ↔ Fault file
+  pub printed-malformed : (printedText file ≡ badLine 9) ↔ Fault file
   printed-malformed = (
     λ e. malformed-exactly file .0 (printed-exactly Malformed .0 e),
     λ f. printed-exactly Malformed .1 (malformed-exactly file .1 f),

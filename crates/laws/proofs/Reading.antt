@@ -9,14 +9,14 @@ use lib.ListN.{length}
 use Rattle.bits.specs.Choice.{pick}
 use Rattle.bits.proofs.Tests.{split}
 use Rattle.bits.proofs.Loops.{length-tab}
-use Rattle.model.specs.Map.{laneCount}
+use Rattle.bits.specs.Sets.{laneCount}
 use Rattle.model.specs.Answers.{isDone}
-use Rattle.model.specs.Lanes.{stageAt}
-use Rattle.model.specs.Triggers.{State}
-use Rattle.model.specs.Work.{Mode, closedPass, workedBy, workedOn, workStep}
-use Rattle.model.specs.Access.{taken}
+use Rattle.model.specs.Records.{stageAt}
+use Rattle.model.specs.State.{State}
+use Rattle.model.specs.Work.{Mode, closingEffect, workEffectBy, workEffectOn, workEffect}
+use Rattle.model.specs.Access.{takenBytes}
 use Rattle.model.specs.Refusals.{firstOf, eventRefusals}
-use Rattle.model.specs.Step.{readAt, carried, done, refused, answered, step}
+use Rattle.model.specs.Step.{readEffect, eventEffect, doneStep, refusedStep, answeredStep, step}
 use Rattle.model.specs.Outcome.{stepOutcome}
 use Rattle.model.specs.declared.lane.Trigger.{Trigger}
 use Rattle.model.specs.declared.lane.Verdict.{Verdict}
@@ -31,18 +31,18 @@ use Rattle.laws.proofs.Unchanged.{laid-front}
 
 module _ (mode : Mode) (s : State) where
   -- a work step reads nothing
-  by-reads : (v : Verdict) (g : ℕ) (t : Trigger) → workedBy v mode s g t .bytes ≡ []
-  unfolding workedBy closedPass pick
+  by-reads : (v : Verdict) (g : ℕ) (t : Trigger) → workEffectBy v mode s g t .bytes ≡ []
+  unfolding workEffectBy closingEffect pick
   by-reads (Reject code) g t = refl
   by-reads (Pass n) g t = split (ltb n laneCount) (λ e. rw (e, pick)) (λ e. rw (e, pick))
 
-  on-reads : (u : Stage) → workedOn u mode s .bytes ≡ []
-  unfolding workedOn
+  on-reads : (u : Stage) → workEffectOn u mode s .bytes ≡ []
+  unfolding workEffectOn
   on-reads Idle = refl
   on-reads (InProgress p) = by-reads (p .verdict) (p .group) (p .trigger)
 
-  carried-reads : (bytes : List ℕ) (c : Call) → length (carried mode s bytes c .bytes) ≡ readCount c
-  unfolding carried readAt taken workStep
+  carried-reads : (bytes : List ℕ) (c : Call) → length (eventEffect mode s bytes c .bytes) ≡ readCount c
+  unfolding eventEffect readEffect takenBytes workEffect
   carried-reads bytes (Write address count) = refl
   carried-reads bytes (Read address count) = length-tab count _
   carried-reads bytes (Work l) = ap length (on-reads (stageAt (s .working) l))
@@ -54,7 +54,7 @@ module _ (mode : Mode) (s : State) where
     -- a step that is done reads as many bytes as its event asks for, and one that is refused none
     pub step-reads : ((isDone (step mode room s e .answer) ≡ true) × (length (step mode room s e .bytes) ≡ readCount (e .call)))
         ⊎ ((isDone (step mode room s e .answer) ≡ false) × (step mode room s e .bytes ≡ []))
-    unfolding step answered done refused pick
+    unfolding step answeredStep doneStep refusedStep pick
     step-reads = split (isDone (firstOf (eventRefusals room s (e .call))))
         (λ d. inl (rw (d, pick) (d, carried-reads (e .bytes) (e .call))))
         (λ d. inr (rw (d, pick) (d, refl)))

@@ -11,15 +11,15 @@ use Rattle.bits.specs.Choice.{pick}
 use Rattle.bits.proofs.Tests.{split, clash}
 use Rattle.bits.proofs.Loops.{length-tab}
 use Rattle.model.specs.Answers.{isDone}
-use Rattle.model.specs.Triggers.{State}
+use Rattle.model.specs.State.{State}
 use Rattle.model.specs.Work.{early}
-use Rattle.model.specs.Pages.{placeOf}
-use Rattle.model.specs.Access.{taken}
+use Rattle.model.specs.Pages.{indexOf}
+use Rattle.model.specs.Access.{takenBytes}
 use Rattle.model.specs.Refusals.{firstOf, startRefusals, entryRefusals, eventRefusals, listRefusals}
-use Rattle.model.specs.Step.{step, run, readAt, carried, done, refused, answered}
-use Rattle.model.specs.Outcome.{startBy, startOutcome, stepOutcome, callBy, callOutcome, listBy, listOutcome, listRoom, numbersOf, unchanged, laidOver}
+use Rattle.model.specs.Step.{step, run, readEffect, eventEffect, doneStep, refusedStep, answeredStep}
+use Rattle.model.specs.Outcome.{startOutcomeBy, startOutcome, stepOutcome, callOutcomeBy, callOutcome, listOutcomeBy, listOutcome, listRoom, numbersOf, unchangedOutcome, laidOver}
 use Rattle.model.specs.declared.answer.Answer.{Answer}
-use Rattle.model.specs.declared.answer.Answer.the-variants.{Done, WrongLength, FlatMemory, Unsound, BadAccess, ShortBuffer, IdleLane, Busy, NoSuchPlace, Malformed, BackToFront}
+use Rattle.model.specs.declared.answer.Answer.the-variants.{Done, WrongLength, FlatMemory, Unsound, BadAccess, ShortBuffer, NothingToDo, Busy, NoSuchTarget, Malformed, BackToFront}
 use Rattle.model.specs.declared.event.Call.the-variants.{Read}
 use Rattle.model.specs.declared.event.Event.{Event}
 use Rattle.laws.specs.Asked.{Asked, start, call, list, outcomeOf, givenState, givenBuffer, holds, bufferTurn, shortBuffer, shortRead}
@@ -34,9 +34,9 @@ done-is FlatMemory e = absurd (clash e refl)
 done-is Unsound e = absurd (clash e refl)
 done-is BadAccess e = absurd (clash e refl)
 done-is ShortBuffer e = absurd (clash e refl)
-done-is IdleLane e = absurd (clash e refl)
+done-is NothingToDo e = absurd (clash e refl)
 done-is Busy e = absurd (clash e refl)
-done-is NoSuchPlace e = absurd (clash e refl)
+done-is NoSuchTarget e = absurd (clash e refl)
 done-is Malformed e = absurd (clash e refl)
 done-is BackToFront e = absurd (clash e refl)
 
@@ -44,13 +44,13 @@ done-is BackToFront e = absurd (clash e refl)
 
 -- a call is refused as a whole, or taken as a whole
 start-cases : (x : List ℕ) → (startOutcome x .answer ≡ Done → ⊥) → Unchanged (start x) (startOutcome x)
-unfolding startOutcome startBy givenState givenBuffer pick
+unfolding startOutcome startOutcomeBy givenState givenBuffer pick
 start-cases x n = split (isDone (firstOf (startRefusals x)))
     (λ d. absurd (n (done-is _ d)))
     (λ d. record { image = rw (d, pick); working = rw (d, pick); buffer = refl; mask = refl })
 
 call-cases : (s : State) (buffer : List ℕ) (e : Event) → (callOutcome s buffer e .answer ≡ Done → ⊥) → Unchanged (call s buffer e) (callOutcome s buffer e)
-unfolding callOutcome callBy stepOutcome unchanged step answered done refused laidOver givenState givenBuffer pick
+unfolding callOutcome callOutcomeBy stepOutcome unchangedOutcome step answeredStep doneStep refusedStep laidOver givenState givenBuffer pick
 call-cases s buffer e n = split (isDone (firstOf (entryRefusals s)))
     (λ d. split (isDone (firstOf (eventRefusals (length buffer) s (e .call))))
     (λ f. absurd (n (rw (d, f, pick) (done-is _ f))))
@@ -59,7 +59,7 @@ call-cases s buffer e n = split (isDone (firstOf (entryRefusals s)))
 
 list-cases : (s : State) (answers : List ℕ) (es : List Event) → (listOutcome s answers es .answer ≡ Done → ⊥)
     → Unchanged (list s answers es) (listOutcome s answers es)
-unfolding listOutcome listBy unchanged givenState givenBuffer pick
+unfolding listOutcome listOutcomeBy unchangedOutcome givenState givenBuffer pick
 list-cases s answers es n = split (isDone (firstOf (listRefusals (length answers) s (length es))))
     (λ d. absurd (n (rw (d, pick) (done-is _ d))))
     (λ d. record { image = rw (d, pick); working = rw (d, pick); buffer = rw (d, pick); mask = rw (d, pick) })
@@ -93,8 +93,8 @@ front n bytes buffer e b =
 
 -- a call that is done is a step that is done
 call-done : (s : State) (buffer : List ℕ) (e : Event) → callOutcome s buffer e .answer ≡ Done
-    → callOutcome s buffer e ≡ stepOutcome (done Done (carried early s (e .bytes) (e .call))) buffer
-unfolding callOutcome callBy stepOutcome unchanged step answered done refused isDone pick
+    → callOutcome s buffer e ≡ stepOutcome (doneStep Done (eventEffect early s (e .bytes) (e .call))) buffer
+unfolding callOutcome callOutcomeBy stepOutcome unchangedOutcome step answeredStep doneStep refusedStep isDone pick
 call-done s buffer e d = split (isDone (firstOf (entryRefusals s)))
     (λ i. split (isDone (firstOf (eventRefusals (length buffer) s (e .call))))
     (λ j. rw (i, j, pick, done-is (firstOf (eventRefusals (length buffer) s (e .call))) j))
@@ -110,12 +110,12 @@ read-fits s buffer bytes address count d =
 -- a read that is done lays the bytes read over the front of its buffer, and leaves the bytes beyond its count alone
 pub read-fronts : (s : State) (buffer bytes : List ℕ) (address count : ℕ)
     → callOutcome s buffer (record { call = Read address count; bytes = bytes }) .answer ≡ Done
-    → Fronted count (taken (s .image) (placeOf (s .image) address) count) buffer
+    → Fronted count (takenBytes (s .image) (indexOf (s .image) address) count) buffer
     (callOutcome s buffer (record { call = Read address count; bytes = bytes }) .buffer)
-unfolding stepOutcome done carried readAt taken
+unfolding stepOutcome doneStep eventEffect readEffect takenBytes
 read-fronts s buffer bytes address count d =
     rw (call-done s buffer (record { call = Read address count; bytes = bytes }) d)
-    (front count (taken (s .image) (placeOf (s .image) address) count) buffer (length-tab count _) (read-fits s buffer bytes address count d))
+    (front count (takenBytes (s .image) (indexOf (s .image) address) count) buffer (length-tab count _) (read-fits s buffer bytes address count d))
 
 run-length : (room : ℕ) (s : State) (es : List Event) → length (run early room s es) ≡ length es
 unfolding run
@@ -129,7 +129,7 @@ list-fits s answers es d = ltb-false (length answers) (length es) (done-exactly 
 -- a list that is done lays one number for each event over the front of the answer buffer, and leaves the rest of it alone
 pub list-fronts : (s : State) (answers : List ℕ) (es : List Event) → listOutcome s answers es .answer ≡ Done
     → Fronted (length es) (numbersOf (run early listRoom s es)) answers (listOutcome s answers es .buffer)
-unfolding listOutcome listBy unchanged numbersOf isDone pick
+unfolding listOutcome listOutcomeBy unchangedOutcome numbersOf isDone pick
 list-fronts s answers es d = split (isDone (firstOf (listRefusals (length answers) s (length es))))
     (λ i. rw (i, pick) (front (length es) (numbersOf (run early listRoom s es)) answers
     (simp length-map (run-length listRoom s es)) (list-fits s answers es d)))

@@ -2,15 +2,15 @@
 use mathlib.Core.Path.{refl, sym, _∙_}
 use mathlib.Core.List.{List}
 use Prim.Native.Nat.{ℕ}
-use Rattle.model.specs.Outcome.{Leaves}
-use Rattle.model.specs.declared.answer.Left.{Left}
+use Rattle.contracts.specs.Contracts.{IsOutcome}
+use Rattle.contracts.specs.declared.Returned.{Returned}
 use Rattle.laws.specs.Asked.{Asked, outcomeOf}
 use Rattle.laws.specs.Left.{Same, leftBy}
 
 module _ (q : Asked) where
   -- whatever meets the contract is the same in answer, image, lane records, buffer and mask
-  pub one-outcome : (r r′ : Left) (image buffer image′ buffer′ : List ℕ)
-      → Leaves (outcomeOf q) r image buffer → Leaves (outcomeOf q) r′ image′ buffer′ → Same r image buffer r′ image′ buffer′
+  pub one-outcome : (r r′ : Returned) (image buffer image′ buffer′ : List ℕ)
+      → IsOutcome (outcomeOf q) r image buffer → IsOutcome (outcomeOf q) r′ image′ buffer′ → Same r image buffer r′ image′ buffer′
   one-outcome r r′ image buffer image′ buffer′ a b =
       record {
         answer = a .answer ∙ sym (b .answer);
@@ -21,6 +21,6 @@ module _ (q : Asked) where
       }
 
   -- and something meets it: the outcome itself
-  pub an-outcome : Leaves (outcomeOf q) (leftBy (outcomeOf q)) (outcomeOf q .state .image) (outcomeOf q .buffer)
+  pub an-outcome : IsOutcome (outcomeOf q) (leftBy (outcomeOf q)) (outcomeOf q .state .image) (outcomeOf q .buffer)
   unfolding leftBy
   an-outcome = record { answer = refl; image = refl; working = refl; buffer = refl; mask = refl }

@@ -6,15 +6,15 @@ use Prim.Native.Nat.{ℕ, _<_}
 use lib.Dec.{ltb}
 use lib.ListN.{length, getD}
 use Rattle.model.specs.Map.{Image}
-use Rattle.model.specs.Lanes.{stageAt, isInProgress, idleWorking}
-use Rattle.model.specs.Triggers.{State}
+use Rattle.model.specs.Records.{stageAt, isInProgress, idleWorking}
+use Rattle.model.specs.State.{State, stateWith}
 use Rattle.model.specs.Flags.{isConditionFlag}
 use Rattle.model.specs.Access.{isBadAccess, writeLimit, readLimit}
 use Rattle.model.specs.Sound.{isSound}
 use Rattle.model.specs.Refusals.{isFlat, isBackToFront, wrongLength, noSuchLane, isBusy, isUnused}
-use Rattle.model.specs.Outcome.{Outcome, state, startOutcome, callOutcome, listOutcome}
+use Rattle.model.specs.Outcome.{Outcome, startOutcome, callOutcome, listOutcome}
 use Rattle.model.specs.declared.answer.Answer.{Answer}
-use Rattle.model.specs.declared.answer.Answer.the-variants.{Done, WrongLength, FlatMemory, Unsound, BadAccess, ShortBuffer, IdleLane, Busy, NoSuchPlace, Malformed, BackToFront}
+use Rattle.model.specs.declared.answer.Answer.the-variants.{Done, WrongLength, FlatMemory, Unsound, BadAccess, ShortBuffer, NothingToDo, Busy, NoSuchTarget, Malformed, BackToFront}
 use Rattle.model.specs.declared.event.Call.{Call}
 use Rattle.model.specs.declared.event.Call.the-variants.{Write, Read, Work, Hardware, Condition, Sample}
 use Rattle.model.specs.declared.event.Event.{Event}
@@ -33,7 +33,7 @@ outcomeOf (list s answers es) = listOutcome s answers es
 
 -- the state that it is given; start has no records yet, and all lanes are idle
 unfoldable pub givenState : Asked → State
-givenState (start x) = state x idleWorking
+givenState (start x) = stateWith x idleWorking
 givenState (call s buffer e) = s
 givenState (list s answers es) = s
 
@@ -121,16 +121,16 @@ holds q WrongLength = wrongLength (givenState q .image)
 holds q FlatMemory = isFlat (givenState q .image)
 holds q Unsound = isUnsound q
 holds q BadAccess = ofEvent (λ s buffer c. badAccess c) q
-holds q NoSuchPlace = ofEvent (λ s buffer c. badPlace c) q
+holds q NoSuchTarget = ofEvent (λ s buffer c. badPlace c) q
 holds q ShortBuffer = shortBuffer q
 holds q Busy = ofEvent (λ s buffer c. busyCall s c) q
-holds q IdleLane = ofEvent (λ s buffer c. idleCall s c) q
+holds q NothingToDo = ofEvent (λ s buffer c. idleCall s c) q
 holds q Malformed = false
 holds q BackToFront = turnedLimits q
 
 -- the order in which they are checked
 abbrev pub order : List Answer
-order = WrongLength ∷ FlatMemory ∷ BackToFront ∷ Unsound ∷ BadAccess ∷ NoSuchPlace ∷ ShortBuffer ∷ Busy ∷ IdleLane ∷ []
+order = WrongLength ∷ FlatMemory ∷ BackToFront ∷ Unsound ∷ BadAccess ∷ NoSuchTarget ∷ ShortBuffer ∷ Busy ∷ NothingToDo ∷ []
 
 -- where in it a buffer is judged
 abbrev pub bufferTurn : ℕ

@@ -1,7 +1,7 @@
 -- Any sequence of public calls after start, each with its own buffer: what one who calls the registers sees.
 use mathlib.Core.List.{List, [], _∷_}
 use Prim.Native.Nat.{ℕ}
-use Rattle.model.specs.Triggers.{State}
+use Rattle.model.specs.State.{State}
 use Rattle.model.specs.Outcome.{Outcome, callOutcome}
 use Rattle.model.specs.declared.event.Event.{Event}
 

@@ -4,7 +4,7 @@ use mathlib.Core.List.{List}
 use Prim.Native.Nat.{ℕ}
 use lib.ListN.{length, take, drop}
 use Rattle.model.specs.Outcome.{Outcome}
-use Rattle.model.specs.declared.answer.Left.{Left}
+use Rattle.contracts.specs.declared.Returned.{Returned}
 use Rattle.laws.specs.Asked.{Asked, givenState, givenBuffer}
 
 -- nothing is changed: no image byte, no lane record, no buffer byte, and no lane is to be commissioned
@@ -21,7 +21,7 @@ pub record Fronted (n : ℕ) (bytes before after : List ℕ) : Type 0 where
   pub rest : drop n after ≡ drop n before
 
 -- two ways in which a call may leave what it was lent and what it hands back are the same
-pub record Same (r : Left) (imageLeft bufferLeft : List ℕ) (r′ : Left) (imageLeft′ bufferLeft′ : List ℕ) : Type 0 where
+pub record Same (r : Returned) (imageLeft bufferLeft : List ℕ) (r′ : Returned) (imageLeft′ bufferLeft′ : List ℕ) : Type 0 where
   pub answer : r .answer ≡ r′ .answer
   pub image : imageLeft ≡ imageLeft′
   pub working : r .working ≡ r′ .working
@@ -29,5 +29,5 @@ pub record Same (r : Left) (imageLeft bufferLeft : List ℕ) (r′ : Left) (imag
   pub mask : r .mask ≡ r′ .mask
 
 -- the outcome itself, handed back
-unfoldable pub leftBy : Outcome → Left
+unfoldable pub leftBy : Outcome → Returned
 leftBy o = record { answer = o .answer; mask = o .mask; working = o .state .working }

@@ -10,18 +10,18 @@ use native.Mathlib.Omega.{arith}
 use lib.ListN.{length, take}
 use borrow.Author.Tests.{ltb-true, lt-ltb, eqb-true, not-false}
 use Rattle.bits.specs.Choice.{pick}
-use Rattle.bits.specs.Sets.{has, nextIn}
+use Rattle.bits.specs.Sets.{has, nextIn, laneCount}
 use Rattle.bits.proofs.Tests.{split, clash, both-l, both-r, both-i}
 use Rattle.bits.proofs.Masks.{next-le}
-use Rattle.model.specs.Map.{imageLength, laneCount}
+use Rattle.model.specs.Map.{imageLength}
 use Rattle.model.specs.Answers.{isDone}
-use Rattle.model.specs.Lanes.{stageAt, isInProgress, withVerdict}
-use Rattle.model.specs.Triggers.{State}
+use Rattle.model.specs.Records.{stageAt, isInProgress, withVerdict}
+use Rattle.model.specs.State.{State}
 use Rattle.model.specs.Work.{early}
 use Rattle.model.specs.Sound.{isSound}
 use Rattle.model.specs.Refusals.{firstOf, wrongLength, imageRefusals, entryRefusals}
 use Rattle.model.specs.Step.{event, step}
-use Rattle.model.specs.Outcome.{stepOutcome, callBy, callOutcome}
+use Rattle.model.specs.Outcome.{Outcome, stepOutcome}
 use Rattle.model.specs.declared.answer.Answer.the-variants.{Done, WrongLength, FlatMemory, Unsound}
 use Rattle.model.specs.declared.event.Call.{Call}
 use Rattle.model.specs.declared.event.Call.the-variants.{Write, Read, Work, Hardware, Condition, Sample}
@@ -32,10 +32,10 @@ use Rattle.model.specs.declared.lane.Stage.{Stage}
 use Rattle.model.specs.declared.lane.Stage.the-variants.{Idle, InProgress}
 use Rattle.laws.specs.Calls.{Called, outcomeAt, stateAfter}
 use Rattle.laws.proofs.Unchanged.{done-is}
-use Rattle.laws_sound.proofs.Sound.{seenOf, Mate, Sound}
+use Rattle.laws_sound.specs.Sound.{seenOf, Mate, Sound}
 use Rattle.laws_sound.proofs.Test.{test-sound}
 use Rattle.laws_sound.proofs.Stranger.{in-progress, groups-apart}
-use Rattle.laws_sound.proofs.Reached.{still-accepted}
+use Rattle.laws_sound.proofs.Reached.{still-accepted, call-is-step}
 use Rattle.laws_step.specs.Told.{stepOn, newlyMarked}
 use Rattle.laws_step.proofs.Frames.{unless}
 use Rattle.laws_step.proofs.Stepped.{not-refused, refused-step}
@@ -209,8 +209,8 @@ nine-left (Pass n) = omega arith
 
 -- a call on a state that is not refused with 1, 2 or 3 is a step
 call-step : (s : State) (c : Called) → firstOf (entryRefusals s) ≡ Done → outcomeAt s c .state ≡ step early (length (c .buffer)) s (c .event) .state
-unfolding callOutcome callBy stepOutcome isDone pick
-call-step s c a = rw (a, isDone, pick)
+unfolding stepOutcome
+call-step s c a = ap (λ (o : Outcome). o .state) (call-is-step s c a)
 
 -- a call on a state where lane l goes on in the group
 module _ (g l most : ℕ) (s : State) (h : l < laneCount) (a : firstOf (entryRefusals s) ≡ Done) (G : GoesOn g most l s) (c : Called) where

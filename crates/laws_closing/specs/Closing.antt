@@ -6,10 +6,9 @@ use Prim.Native.Nat.{ℕ, suc, _+_, _≤_, _<_}
 use lib.Dec.{ltb}
 use lib.ListN.{length, take}
 use Rattle.bits.specs.Choice.{pick, both}
-use Rattle.bits.specs.Sets.{has}
-use Rattle.model.specs.Map.{laneCount}
-use Rattle.model.specs.Lanes.{stageAt}
-use Rattle.model.specs.Triggers.{State}
+use Rattle.bits.specs.Sets.{has, laneCount}
+use Rattle.model.specs.Records.{stageAt}
+use Rattle.model.specs.State.{State}
 use Rattle.model.specs.declared.event.Call.{Call}
 use Rattle.model.specs.declared.event.Call.the-variants.{Write, Read, Work, Hardware, Condition, Sample}
 use Rattle.model.specs.declared.lane.Progress.{Progress}

@@ -1,7 +1,6 @@
 -- What is read back after a change of the register itself. Assumes nothing.
 use mathlib.Core.Path.{_≡_, refl, sym, _∙_}
 use mathlib.Core.Bool.{Bool, true, false}
-use mathlib.Core.Logic.{_≢_}
 use Prim.Native.Nat.{ℕ, _+_, _%_, _^_, _≤_, _<_}
 use native.Mathlib.Nat.{mod-eq-of-lt}
 use native.Mathlib.Omega.{arith}
@@ -16,15 +15,15 @@ use Rattle.bits.proofs.Tests.{split, pick-true, pick-false}
 use Rattle.bits.proofs.Places.{get-lt}
 use Rattle.bits.proofs.Lanes.{lane-width, lanes-apart, table-apart, lane-fits}
 use Rattle.bits.proofs.Loops.{get-puts, get-puts-apart}
-use Rattle.model.specs.Map.{Image, stateAt, statusAt, pendingAt, settingAt, settingOffsets, settingWidths, activeSet}
+use Rattle.model.specs.Map.{Image, stateAt, statusAt, pendingAt, settingAt, settingOffsets, settingWidths, activeSet, imageLength, statusBytes, pendingByte, stateBytes}
 use Rattle.model.specs.PathStates.{codeOf}
-use Rattle.model.specs.Lanes.{noSettings}
+use Rattle.model.specs.Records.{noSettings}
 use Rattle.model.specs.View.{settingsAt, settingValues, isUsed, explicit}
-use Rattle.model.specs.Triggers.{withStatus}
-use Rattle.model.specs.Work.{withPending, withActive, byModule, written}
-use Rattle.model.specs.Hardware.{withState}
+use Rattle.model.specs.Registers.{withStatus, withPending, withPathState}
+use Rattle.model.specs.Work.{withActive, byModule, writtenSettings}
 use Rattle.model.specs.declared.lane.Settings.{Settings}
 use Rattle.model.specs.declared.path.PathState.{PathState}
+use Rattle.laws_frames.specs.Frames.{FitsNibble, Fits, OtherLane}
 use Rattle.laws_frames.proofs.Registers.{by-setting, setting-to, settings-path, settings-at-same}
 
 -- ---- a field that every lane has
@@ -42,36 +41,32 @@ module _ (base w : ℕ) (c : ℕ → Bool) (v : ℕ) (x : Image) (l : ℕ) (n : 
   lanes-out : c l ≡ false → get (each c (λ k y. put y (laneField base w k) v) 8 x) (laneField base w l) ≡ get x (laneField base w l)
   lanes-out t = lanes-back base w c v x l n e b ∙ pick-false _ _ t
 
-module _ (x : Image) (l : ℕ) (n : length x ≡ 768) (b : l < 8) where
-  pub status-in : (c : ℕ → Bool) (code : ℕ) → code < 16 → c l ≡ true → get (withStatus c code x) (statusAt l) ≡ code
+module _ (x : Image) (l : ℕ) (n : length x ≡ imageLength) (b : l < 8) where
+  pub status-in : (c : ℕ → Bool) (code : ℕ) → FitsNibble code → c l ≡ true → get (withStatus c code x) (statusAt l) ≡ code
   unfolding withStatus
-  status-in c code h t = lanes-in 714 4 c code x l (omega arith) refl b h t
+  status-in c code h t = lanes-in statusBytes 4 c code x l (omega arith) refl b h t
 
   pub status-out : (c : ℕ → Bool) (code : ℕ) → c l ≡ false → get (withStatus c code x) (statusAt l) ≡ get x (statusAt l)
   unfolding withStatus
-  status-out c code t = lanes-out 714 4 c code x l (omega arith) refl b t
+  status-out c code t = lanes-out statusBytes 4 c code x l (omega arith) refl b t
 
   pub pending-in : (c : ℕ → Bool) (v : ℕ) → v < 2 → c l ≡ true → get (withPending c v x) (pendingAt l) ≡ v
   unfolding withPending
-  pending-in c v h t = lanes-in 747 1 c v x l (omega arith) refl b h t
+  pending-in c v h t = lanes-in pendingByte 1 c v x l (omega arith) refl b h t
 
   pub pending-out : (c : ℕ → Bool) (v : ℕ) → c l ≡ false → get (withPending c v x) (pendingAt l) ≡ get x (pendingAt l)
   unfolding withPending
-  pending-out c v t = lanes-out 747 1 c v x l (omega arith) refl b t
+  pending-out c v t = lanes-out pendingByte 1 c v x l (omega arith) refl b t
 
-  pub state-in : (g : ℕ) (to : PathState) → codeOf to < 16 → has g l ≡ true → get (withState g to x) (stateAt l) ≡ codeOf to
-  unfolding withState
-  state-in g to h t = lanes-in 640 4 (has g) (codeOf to) x l (omega arith) refl b h t
+  pub state-in : (g : ℕ) (to : PathState) → FitsNibble (codeOf to) → has g l ≡ true → get (withPathState g to x) (stateAt l) ≡ codeOf to
+  unfolding withPathState
+  state-in g to h t = lanes-in stateBytes 4 (has g) (codeOf to) x l (omega arith) refl b h t
 
-  pub state-out : (g : ℕ) (to : PathState) → has g l ≡ false → get (withState g to x) (stateAt l) ≡ get x (stateAt l)
-  unfolding withState
-  state-out g to t = lanes-out 640 4 (has g) (codeOf to) x l (omega arith) refl b t
+  pub state-out : (g : ℕ) (to : PathState) → has g l ≡ false → get (withPathState g to x) (stateAt l) ≡ get x (stateAt l)
+  unfolding withPathState
+  state-out g to t = lanes-out stateBytes 4 (has g) (codeOf to) x l (omega arith) refl b t
 
 -- ---- settings
-
--- values fit their fields
-abbrev pub Fits : Settings → Type 0
-Fits h = (k : ℕ) → k < 8 → getD (settingValues h) k 0 < 2 ^ getD settingWidths k 0
 
 -- no two fields of the active set share a bit
 active-table : allApart 8 (λ k. activeSet + getD settingOffsets k 0) (λ k. getD settingWidths k 0) ≡ true
@@ -87,7 +82,7 @@ setting-wide : (base k l : ℕ) → settingAt base k l .width ≡ getD settingWi
 unfolding settingAt
 setting-wide base k l = lane-width _ _ l
 
-active-back : (h : Settings) (l k : ℕ) (x : Image) → length x ≡ 768 → l < 8 → k < 8 → Fits h
+active-back : (h : Settings) (l k : ℕ) (x : Image) → length x ≡ imageLength → l < 8 → k < 8 → Fits h
     → get (withActive h l x) (settingAt activeSet k l) ≡ getD (settingValues h) k 0
 unfolding withActive
 active-back h l k x n b hk f =
@@ -96,7 +91,7 @@ active-back h l k x n b hk f =
     ∙ pick-true _ _ refl ∙ rw (setting-wide activeSet k l) (mod-eq-of-lt (f k hk))
 
 -- the lane's settings are the values
-pub active-in : (h : Settings) (l : ℕ) (x : Image) → length x ≡ 768 → l < 8 → Fits h → settingsAt activeSet (withActive h l x) l ≡ h
+pub active-in : (h : Settings) (l : ℕ) (x : Image) → length x ≡ imageLength → l < 8 → Fits h → settingsAt activeSet (withActive h l x) l ≡ h
 unfolding settingsAt settingValues
 active-in h l x n b f =
     settings-path (at 0 (omega arith)) (at 1 (omega arith)) (at 2 (omega arith)) (at 3 (omega arith))
@@ -106,7 +101,7 @@ active-in h l x n b f =
     at k hk = active-back h l k x n b hk f
 
 -- the other lanes' stay
-pub active-out : (h : Settings) (l m : ℕ) (x : Image) → l < 8 → m < 8 → m ≢ l → settingsAt activeSet (withActive h l x) m ≡ settingsAt activeSet x m
+pub active-out : (h : Settings) (l m : ℕ) (x : Image) → l < 8 → m < 8 → OtherLane l m → settingsAt activeSet (withActive h l x) m ≡ settingsAt activeSet x m
 unfolding withActive
 active-out h l m x b bm d = settings-at-same activeSet x _ m (λ k hk.
     get-puts-apart (λ k. true) (λ k. settingAt activeSet k l) (λ k. getD (settingValues h) k 0) 8 x (settingAt activeSet k m)
@@ -133,8 +128,8 @@ unfolding settingValues
 none-fits = by-setting (λ k. getD (settingValues noSettings) k 0 < 2 ^ getD settingWidths k 0)
     (omega arith) (omega arith) (omega arith) (omega arith) (omega arith) (omega arith) (omega arith) (omega arith)
 
-pub written-fits : (h : Settings) → Fits h → Fits (written h)
-unfolding written pick
+pub written-fits : (h : Settings) → Fits h → Fits (writtenSettings h)
+unfolding writtenSettings pick
 written-fits h f = split (isUsed h)
     (λ u. split (eqb (explicit h) 1) (λ e. rw (u, e, pick) f) (λ e. rw (u, e, pick) (module-fits h f)))
     (λ u. rw (u, pick) none-fits)

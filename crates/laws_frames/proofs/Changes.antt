@@ -12,56 +12,57 @@ use Rattle.bits.specs.Word.{putWord}
 use Rattle.bits.proofs.Tests.{clash}
 use Rattle.bits.proofs.Loops.{each-skip}
 use Rattle.bits.proofs.Words.{length-put-word, word-byte-other}
-use Rattle.model.specs.Map.{Image, on, page11, stateAt, statusAt, pendingAt, settingAt, activeSet, flagAt, interruptBit, receivedPower, clearing}
-use Rattle.model.specs.Triggers.{withStatus}
-use Rattle.model.specs.Work.{withActive, copyLane, withPending}
-use Rattle.model.specs.Hardware.{withState, withFlags, entered, moved, movedPath, hardwareMoved}
-use Rattle.model.specs.Flags.{raised, sampled, settled}
-use Rattle.model.specs.Pages.{withPage, pagePlace, pageSelected}
-use Rattle.model.specs.Access.{cleared}
+use Rattle.model.specs.Map.{Image, on, page11, stateAt, statusAt, pendingAt, settingAt, activeSet, flagAt, interruptBit, receivedPower, clearing, statusBytes, pendingByte, stateBytes, setLength, flagBytes}
+use Rattle.model.specs.Registers.{withStatus, withPending, withPathState, withFlags}
+use Rattle.model.specs.Work.{withActive, copyLane}
+use Rattle.model.specs.Hardware.{enteredImage, movedImage, movedPathImage, hardwareImage}
+use Rattle.model.specs.Flags.{raisedImage, sampledImage, settledImage}
+use Rattle.model.specs.Pages.{withPage, pageStart, selectedImage}
+use Rattle.model.specs.Access.{clearedImage}
 use Rattle.model.specs.declared.lane.Settings.{Settings}
 use Rattle.model.specs.declared.lane.Working.{Working}
-use Rattle.model.specs.declared.page.PagePlace.{PagePlace}
-use Rattle.model.specs.declared.page.PagePlace.the-variants.{Unsupported, At}
+use Rattle.model.specs.declared.page.PageStart.{PageStart}
+use Rattle.model.specs.declared.page.PageStart.the-variants.{Unsupported, At}
 use Rattle.model.specs.declared.path.PathState.{PathState}
-use Rattle.laws_frames.proofs.Outside.{Beside, SameOutside, outside-refl, outside-trans, outside-wider, set-outside, put-outside, each-outside}
-use Rattle.laws_frames.proofs.Registers.{lane-from, lane-to, setting-from, setting-to, advertised-between, SameAdvertised}
+use Rattle.laws_frames.specs.Frames.{Beside, SameOutside, stateEnd, statusEnd, pendingEnd, SameAdvertised, SameOffPath}
+use Rattle.laws_frames.proofs.Outside.{outside-refl, outside-trans, outside-wider, set-outside, put-outside, each-outside}
+use Rattle.laws_frames.proofs.Registers.{lane-from, lane-to, setting-from, setting-to, advertised-between}
 
 -- ---- lanes' registers
 
-pub status-outside : (c : ℕ → Bool) (code : ℕ) (x : Image) → SameOutside 714 718 x (withStatus c code x)
+pub status-outside : (c : ℕ → Bool) (code : ℕ) (x : Image) → SameOutside statusBytes statusEnd x (withStatus c code x)
 unfolding withStatus
-status-outside c code x = each-outside 714 718 c _ 8 x (λ l y b e.
-    put-outside 714 718 y (statusAt l) code (lane-from 714 4 l b refl) (lane-to 714 4 l b refl))
+status-outside c code x = each-outside statusBytes statusEnd c _ 8 x (λ l y b e.
+    put-outside statusBytes statusEnd y (statusAt l) code (lane-from statusBytes 4 l b refl) (lane-to statusBytes 4 l b refl))
 
-pub pending-outside : (c : ℕ → Bool) (v : ℕ) (x : Image) → SameOutside 747 748 x (withPending c v x)
+pub pending-outside : (c : ℕ → Bool) (v : ℕ) (x : Image) → SameOutside pendingByte pendingEnd x (withPending c v x)
 unfolding withPending
-pending-outside c v x = each-outside 747 748 c _ 8 x (λ l y b e.
-    put-outside 747 748 y (pendingAt l) v (lane-from 747 1 l b refl) (lane-to 747 1 l b refl))
+pending-outside c v x = each-outside pendingByte pendingEnd c _ 8 x (λ l y b e.
+    put-outside pendingByte pendingEnd y (pendingAt l) v (lane-from pendingByte 1 l b refl) (lane-to pendingByte 1 l b refl))
 
-pub state-outside : (g : ℕ) (to : PathState) (x : Image) → SameOutside 640 644 x (withState g to x)
-unfolding withState
-state-outside g to x = each-outside 640 644 (has g) _ 8 x (λ l y b e.
-    put-outside 640 644 y (stateAt l) _ (lane-from 640 4 l b refl) (lane-to 640 4 l b refl))
+pub state-outside : (g : ℕ) (to : PathState) (x : Image) → SameOutside stateBytes stateEnd x (withPathState g to x)
+unfolding withPathState
+state-outside g to x = each-outside stateBytes stateEnd (has g) _ 8 x (λ l y b e.
+    put-outside stateBytes stateEnd y (stateAt l) _ (lane-from stateBytes 4 l b refl) (lane-to stateBytes 4 l b refl))
 
 pub flags-outside : (address g : ℕ) (x : Image) → SameOutside (on page11 address) (on page11 address + 1) x (withFlags address g x)
 unfolding withFlags
 flags-outside address g x = each-outside _ _ (has g) _ 8 x (λ l y b e.
     put-outside _ _ y (flagAt address l) 1 (lane-from (on page11 address) 1 l b refl) (lane-to (on page11 address) 1 l b refl))
 
-pub active-outside : (h : Settings) (l : ℕ) (x : Image) → l < 8 → SameOutside 718 747 x (withActive h l x)
+pub active-outside : (h : Settings) (l : ℕ) (x : Image) → l < 8 → SameOutside activeSet (activeSet + setLength) x (withActive h l x)
 unfolding withActive
-active-outside h l x b = each-outside 718 747 (λ k. true) _ 8 x (λ k y hk e.
-    put-outside 718 747 y (settingAt activeSet k l) _ (setting-from activeSet k l hk b) (setting-to activeSet k l hk b))
+active-outside h l x b = each-outside activeSet (activeSet + setLength) (λ k. true) _ 8 x (λ k y hk e.
+    put-outside activeSet (activeSet + setLength) y (settingAt activeSet k l) _ (setting-from activeSet k l hk b) (setting-to activeSet k l hk b))
 
-pub copy-outside : (w : Working) (l : ℕ) (x : Image) → l < 8 → SameOutside 718 747 x (copyLane w l x)
+pub copy-outside : (w : Working) (l : ℕ) (x : Image) → l < 8 → SameOutside activeSet (activeSet + setLength) x (copyLane w l x)
 unfolding copyLane
 copy-outside w l x b = active-outside _ l x b
 
 -- ---- flags and samples
 
-pub settled-outside : (x : Image) → SameOutside 3 4 x (settled x)
-unfolding settled
+pub settled-outside : (x : Image) → SameOutside 3 4 x (settledImage x)
+unfolding settledImage
 settled-outside x = put-outside 3 4 x interruptBit _ (omega arith) (omega arith)
 
 only-outside : (lo hi : ℕ) (b : Bool) (f : Image → Image) (x : Image) → SameOutside lo hi x (f x) → SameOutside lo hi x (onlyIf b f x)
@@ -70,20 +71,20 @@ only-outside lo hi true f x s = s
 only-outside lo hi false f x s = outside-refl lo hi x
 
 -- flag bytes 134 to 153 and the received power lie in 646 .. 713
-raised-outside : (test : Bool) (flag l : ℕ) (x : Image) → l < 8 → 134 ≤ flag → flag ≤ 153 → SameOutside 646 714 x (raised test flag l x)
-unfolding raised
-raised-outside test flag l x b f t = only-outside 646 714 test _ x
-    (put-outside 646 714 x (flagAt flag l) 1 (omega (arith, lane-from (on page11 flag) 1 l b refl)) (omega (arith, lane-to (on page11 flag) 1 l b refl)))
+raised-outside : (test : Bool) (flag l : ℕ) (x : Image) → l < 8 → 134 ≤ flag → flag ≤ 153 → SameOutside flagBytes statusBytes x (raisedImage test flag l x)
+unfolding raisedImage
+raised-outside test flag l x b f t = only-outside flagBytes statusBytes test _ x
+    (put-outside flagBytes statusBytes x (flagAt flag l) 1 (omega (arith, lane-from (on page11 flag) 1 l b refl)) (omega (arith, lane-to (on page11 flag) 1 l b refl)))
 
-power-outside : (l p : ℕ) (x : Image) → l < 8 → SameOutside 646 714 x (putWord 2 x (receivedPower + 2 * l) p)
+power-outside : (l p : ℕ) (x : Image) → l < 8 → SameOutside flagBytes statusBytes x (putWord 2 x (receivedPower + 2 * l) p)
 power-outside l p x b = record { size = length-put-word 2 x (receivedPower + 2 * l) p; byte = λ i o. word-byte-other 2 x (receivedPower + 2 * l) p i (off i o) }
   where
-    off : (i : ℕ) → Beside 646 714 i → (i < receivedPower + 2 * l) ⊎ ((receivedPower + 2 * l) + 2 ≤ i)
+    off : (i : ℕ) → Beside flagBytes statusBytes i → (i < receivedPower + 2 * l) ⊎ ((receivedPower + 2 * l) + 2 ≤ i)
     off i (inl h) = inl (omega arith)
     off i (inr h) = inr (omega arith)
 
-pub sampled-outside : (l p : ℕ) (x : Image) → l < 8 → SameOutside 646 714 x (sampled l p x)
-unfolding sampled
+pub sampled-outside : (l p : ℕ) (x : Image) → l < 8 → SameOutside flagBytes statusBytes x (sampledImage l p x)
+unfolding sampledImage
 sampled-outside l p x b =
     outside-trans (power-outside l p x b)
     (outside-trans (raised-outside _ 149 l _ b (omega arith) (omega arith))
@@ -92,31 +93,26 @@ sampled-outside l p x b =
 
 -- ---- host accesses
 
-page-outside : (place : PagePlace) (page : ℕ) (x : Image) → SameOutside 126 128 x (withPage place page x)
+page-outside : (place : PageStart) (page : ℕ) (x : Image) → SameOutside 126 128 x (withPage place page x)
 page-outside Unsupported page x = outside-trans (outside-wider 126 128 (omega arith) (omega arith) (set-outside x 126 0))
     (outside-wider 126 128 (omega arith) (omega arith) (set-outside (set x 126 0) 127 0))
 page-outside (At start) page x = outside-wider 126 128 (omega arith) (omega arith) (set-outside x 127 page)
 
-pub selected-outside : (page : ℕ) (x : Image) → SameOutside 126 128 x (pageSelected page x)
-unfolding pageSelected
-selected-outside page x = page-outside (pagePlace (getD x 126 0) page) page x
+pub selected-outside : (page : ℕ) (x : Image) → SameOutside 126 128 x (selectedImage page x)
+unfolding selectedImage
+selected-outside page x = page-outside (pageStart (getD x 126 0) page) page x
 
 -- a read changes only bytes that a read clears
-pub cleared-byte : (x : Image) (i n j : ℕ) → clearing j ≡ false → getD (cleared x i n) j 0 ≡ getD x j 0
-unfolding cleared
+pub cleared-byte : (x : Image) (i n j : ℕ) → clearing j ≡ false → getD (clearedImage x i n) j 0 ≡ getD x j 0
+unfolding clearedImage
 cleared-byte x i n j e = each-skip (λ k. clearing (i + k)) _ (λ y. getD y j 0) n x (λ k y b t.
     getD-set-other y (i + k) j 0 0 (λ q. clash t (rw q at e)))
 
-pub cleared-length : (x : Image) (i n : ℕ) → length (cleared x i n) ≡ length x
-unfolding cleared
+pub cleared-length : (x : Image) (i n : ℕ) → length (clearedImage x i n) ≡ length x
+unfolding clearedImage
 cleared-length x i n = each-skip (λ k. clearing (i + k)) _ length n x (λ k y b t. length-set y (i + k) 0)
 
 -- ---- a hardware event: states, DPStateChanged and pending bits
-
--- y has x's length, and x's bytes outside 640 .. 643, 646 and 747
-pub record SameOffPath (x y : Image) : Type 0 where
-  pub size : length y ≡ length x
-  pub byte : (i : ℕ) → Beside 640 644 i → Beside 646 647 i → Beside 747 748 i → getD y i 0 ≡ getD x i 0
 
 pub off-advertised : {x y : Image} → SameOffPath x y → SameAdvertised x y
 off-advertised s i d =
@@ -131,21 +127,21 @@ unfolding onlyIf
 off-only true f x s = s
 off-only false f x s = record { size = refl; byte = λ i a b c. refl }
 
-off-state : {x y : Image} → SameOutside 640 644 x y → SameOffPath x y
+off-state : {x y : Image} → SameOutside stateBytes stateEnd x y → SameOffPath x y
 off-state s = record { size = s .size; byte = λ i a b c. s .byte i a }
 
-off-flags : {x y : Image} → SameOutside 646 647 x y → SameOffPath x y
+off-flags : {x y : Image} → SameOutside flagBytes (flagBytes + 1) x y → SameOffPath x y
 off-flags s = record { size = s .size; byte = λ i a b c. s .byte i b }
 
-off-pending : {x y : Image} → SameOutside 747 748 x y → SameOffPath x y
+off-pending : {x y : Image} → SameOutside pendingByte pendingEnd x y → SameOffPath x y
 off-pending s = record { size = s .size; byte = λ i a b c. s .byte i c }
 
-pub entered-off : (g : ℕ) (from to : PathState) (x : Image) → SameOffPath x (entered g from to x)
-unfolding entered
+pub entered-off : (g : ℕ) (from to : PathState) (x : Image) → SameOffPath x (enteredImage g from to x)
+unfolding enteredImage
 entered-off g from to x =
     off-trans (off-state (state-outside g to x))
     (off-trans (off-only _ _ _ (off-pending (pending-outside (has g) 0 _))) (off-only _ _ _ (off-flags (flags-outside 134 g _))))
 
-pub hardware-off : (x : Image) (l : ℕ) → SameOffPath x (hardwareMoved x l)
-unfolding hardwareMoved movedPath moved
+pub hardware-off : (x : Image) (l : ℕ) → SameOffPath x (hardwareImage x l)
+unfolding hardwareImage movedPathImage movedImage
 hardware-off x l = off-only _ _ x (entered-off _ _ _ x)

@@ -2,29 +2,17 @@
 use mathlib.Core.Path.{_≡_, refl, _∙_}
 use mathlib.Core.Bool.{Bool, true}
 use mathlib.Core.List.{List}
-use mathlib.Core.Logic.{_⊎_, inl, inr}
+use mathlib.Core.Logic.{inl, inr}
 use Prim.Native.Nat.{ℕ, suc, _≤_, _<_}
 use native.Mathlib.Omega.{arith}
-use lib.ListN.{length, getD, set, length-set}
+use lib.ListN.{getD, set, length-set}
 use lib.Seq.{getD-set-other}
 use Rattle.bits.specs.declared.Place.{Place}
 use Rattle.bits.specs.Place.{get, put}
 use Rattle.bits.specs.Loop.{each}
 use Rattle.bits.proofs.Places.{length-put, byte-other}
 use Rattle.bits.proofs.Loops.{each-ind}
-
--- a byte lies below a range or above it
-abbrev pub Beside : ℕ → ℕ → ℕ → Type 0
-Beside lo hi i = (i < lo) ⊎ (hi ≤ i)
-
--- y has x's length, and x's bytes outside lo .. hi - 1
-pub record SameOutside (lo hi : ℕ) (x y : List ℕ) : Type 0 where
-  pub size : length y ≡ length x
-  pub byte : (i : ℕ) → Beside lo hi i → getD y i 0 ≡ getD x i 0
-
--- y has x's bytes in lo .. hi - 1
-abbrev pub SameWithin : ℕ → ℕ → List ℕ → List ℕ → Type 0
-SameWithin lo hi x y = (i : ℕ) → lo ≤ i → i < hi → getD y i 0 ≡ getD x i 0
+use Rattle.laws_frames.specs.Frames.{Beside, SameOutside, SameWithin}
 
 -- ---- making it
 

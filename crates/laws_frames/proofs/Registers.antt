@@ -1,7 +1,7 @@
 -- Each register reads only the bytes of its range. Assumes nothing.
 use mathlib.Core.Path.{_≡_, refl}
 use mathlib.Core.Bool.{true}
-use mathlib.Core.Logic.{_⊎_, inl, inr}
+use mathlib.Core.Logic.{inl, inr}
 use Prim.Native.Nat.{ℕ, zero, suc, _+_, _%_, _≤_, _<_}
 use native.Mathlib.Decide.{decLt}
 use native.Mathlib.Omega.{arith}
@@ -17,12 +17,13 @@ use Rattle.bits.proofs.Tests.{split, both-l, both-r}
 use Rattle.bits.proofs.Lanes.{lane-in}
 use Rattle.bits.proofs.Loops.{all-at, all-ext, tab-ext}
 use Rattle.bits.proofs.Words.{word-ext}
-use Rattle.model.specs.Map.{Image, stateAt, statusAt, pendingAt, settingAt, settingOffsets, settingWidths, equalizerLimit, preLimit, postLimit, amplitudeSupport}
+use Rattle.model.specs.Map.{Image, stateAt, statusAt, pendingAt, settingAt, settingOffsets, settingWidths, equalizerLimit, preLimit, postLimit, amplitudeSupport, stateBytes, statusBytes, pendingByte, page10, setLength}
 use Rattle.model.specs.Applications.{applicationCount, firstOnPage, descriptorAt, listReaches, hostLaneCount, isPresent, lookup}
 use Rattle.model.specs.View.{settingsAt, settingsOf, statesOf, applicationsOf, limitsOf}
 use Rattle.model.specs.declared.lane.Settings.{Settings}
 use Rattle.model.proofs.Descriptors.{in-lower, on-page}
-use Rattle.laws_frames.proofs.Outside.{SameOutside, SameWithin, get-same, get-within}
+use Rattle.laws_frames.specs.Frames.{SameOutside, SameWithin, stateEnd, statusEnd, pendingEnd, Advertised, SameAdvertised}
+use Rattle.laws_frames.proofs.Outside.{get-same, get-within}
 
 -- ---- where lane fields lie
 
@@ -34,24 +35,20 @@ lane-to base w l b e = lane-in base w l b e .1
 
 -- ---- states, statuses, pending bits
 
-pub state-same : (x y : Image) (l : ℕ) → l < 8 → SameWithin 640 644 x y → get y (stateAt l) ≡ get x (stateAt l)
-state-same x y l b s = get-within x y (stateAt l) (lane-from 640 4 l b refl) (lane-to 640 4 l b refl) s
+pub state-same : (x y : Image) (l : ℕ) → l < 8 → SameWithin stateBytes stateEnd x y → get y (stateAt l) ≡ get x (stateAt l)
+state-same x y l b s = get-within x y (stateAt l) (lane-from stateBytes 4 l b refl) (lane-to stateBytes 4 l b refl) s
 
-pub states-same : (x y : Image) → SameWithin 640 644 x y → statesOf y ≡ statesOf x
+pub states-same : (x y : Image) → SameWithin stateBytes stateEnd x y → statesOf y ≡ statesOf x
 unfolding statesOf
 states-same x y s = tab-ext 8 _ _ (λ l b. state-same x y l b s)
 
-pub status-same : (x y : Image) (l : ℕ) → l < 8 → SameWithin 714 718 x y → get y (statusAt l) ≡ get x (statusAt l)
-status-same x y l b s = get-within x y (statusAt l) (lane-from 714 4 l b refl) (lane-to 714 4 l b refl) s
+pub status-same : (x y : Image) (l : ℕ) → l < 8 → SameWithin statusBytes statusEnd x y → get y (statusAt l) ≡ get x (statusAt l)
+status-same x y l b s = get-within x y (statusAt l) (lane-from statusBytes 4 l b refl) (lane-to statusBytes 4 l b refl) s
 
-pub pending-same : (x y : Image) (l : ℕ) → l < 8 → SameWithin 747 748 x y → get y (pendingAt l) ≡ get x (pendingAt l)
-pending-same x y l b s = get-within x y (pendingAt l) (lane-from 747 1 l b refl) (lane-to 747 1 l b refl) s
+pub pending-same : (x y : Image) (l : ℕ) → l < 8 → SameWithin pendingByte pendingEnd x y → get y (pendingAt l) ≡ get x (pendingAt l)
+pending-same x y l b s = get-within x y (pendingAt l) (lane-from pendingByte 1 l b refl) (lane-to pendingByte 1 l b refl) s
 
 -- ---- settings
-
--- the number of bytes that a set of settings takes
-abbrev pub setLength : ℕ
-setLength = 29
 
 setting-fits : allBelow 8 (λ k. both (leb (getD settingOffsets k 0 + getD settingWidths k 0) setLength) (eqb (8 % getD settingWidths k 0) 0)) ≡ true
 unfolding allBelow both
@@ -113,19 +110,11 @@ limits-same x y s = λ i. record {
   amplitudes = get-same x y amplitudeSupport (s 281 (omega arith) (omega arith)) i;
 }
 
--- what the module says of itself and nothing changes: the descriptors of lower memory, and pages 00h, 01h, 02h
-abbrev pub Advertised : ℕ → Type 0
-Advertised i = ((86 ≤ i) × (i < 118)) ⊎ ((128 ≤ i) × (i < 512))
-
-pub advertised-between : (i : ℕ) → Advertised i → (86 ≤ i) × (i < 512)
+pub advertised-between : (i : ℕ) → Advertised i → (86 ≤ i) × (i < page10)
 advertised-between i (inl h) = (omega arith, omega arith)
 advertised-between i (inr h) = (omega arith, omega arith)
 
--- y has x's bytes there
-abbrev pub SameAdvertised : Image → Image → Type 0
-SameAdvertised x y = (i : ℕ) → Advertised i → getD y i 0 ≡ getD x i 0
-
-pub advertised-below : {lo hi : ℕ} {x y : Image} → 512 ≤ lo → SameOutside lo hi x y → SameAdvertised x y
+pub advertised-below : {lo hi : ℕ} {x y : Image} → page10 ≤ lo → SameOutside lo hi x y → SameAdvertised x y
 advertised-below h s i d = s .byte i (inl (omega (arith, advertised-between i d)))
 
 -- every byte of a descriptor is one of them

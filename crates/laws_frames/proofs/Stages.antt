@@ -5,7 +5,7 @@ use Prim.Native.Nat.{ℕ, _<_}
 use Rattle.bits.specs.Sets.{has}
 use Rattle.bits.proofs.Tests.{pick-true, pick-false}
 use Rattle.bits.proofs.Loops.{tab-at}
-use Rattle.model.specs.Lanes.{idleRecord, idleWorking, recordAt, stageAt, withStage, withStages, withVerdict, freed, advanced}
+use Rattle.model.specs.Records.{idleRecord, idleWorking, recordAt, stageAt, withStage, withStages, withVerdict, freedWorking, advancedWorking}
 use Rattle.model.specs.declared.lane.Verdict.the-variants.{Pass}
 use Rattle.model.specs.declared.lane.Stage.{Stage}
 use Rattle.model.specs.declared.lane.Stage.the-variants.{Idle}
@@ -20,18 +20,18 @@ module _ (w : Working) where
   unfolding withStages withStage
   stage-in f l b = ap (λ (r : LaneRecord). r .stage) (tab-at 8 (λ k. withStage (recordAt w k) (f k)) l idleRecord b)
 
-  pub freed-in : (g l : ℕ) → l < 8 → has g l ≡ true → stageAt (freed w g) l ≡ Idle
-  unfolding freed
+  pub freed-in : (g l : ℕ) → l < 8 → has g l ≡ true → stageAt (freedWorking w g) l ≡ Idle
+  unfolding freedWorking
   freed-in g l b i = stage-in _ l b ∙ pick-true _ _ i
 
-  pub freed-out : (g l : ℕ) → l < 8 → has g l ≡ false → stageAt (freed w g) l ≡ stageAt w l
-  unfolding freed
+  pub freed-out : (g l : ℕ) → l < 8 → has g l ≡ false → stageAt (freedWorking w g) l ≡ stageAt w l
+  unfolding freedWorking
   freed-out g l b i = stage-in _ l b ∙ pick-false _ _ i
 
-  pub advanced-in : (g n l : ℕ) → l < 8 → has g l ≡ true → stageAt (advanced w g n) l ≡ withVerdict (stageAt w l) (Pass n)
-  unfolding advanced
+  pub advanced-in : (g n l : ℕ) → l < 8 → has g l ≡ true → stageAt (advancedWorking w g n) l ≡ withVerdict (stageAt w l) (Pass n)
+  unfolding advancedWorking
   advanced-in g n l b i = stage-in _ l b ∙ pick-true _ _ i
 
-  pub advanced-out : (g n l : ℕ) → l < 8 → has g l ≡ false → stageAt (advanced w g n) l ≡ stageAt w l
-  unfolding advanced
+  pub advanced-out : (g n l : ℕ) → l < 8 → has g l ≡ false → stageAt (advancedWorking w g n) l ≡ stageAt w l
+  unfolding advancedWorking
   advanced-out g n l b i = stage-in _ l b ∙ pick-false _ _ i

@@ -6,10 +6,11 @@ use Prim.Native.Nat.{ℕ, _≤_}
 use lib.Dec.{ltb}
 use lib.ListN.{length}
 use borrow.Author.Tests.{eqb-true, ltb-false, not-false}
+use Rattle.model.specs.Map.{imageLength}
 use Rattle.bits.specs.Choice.{pick}
 use Rattle.bits.proofs.Tests.{clash, pick-true, pick-false}
 use Rattle.model.specs.Answers.{isDone}
-use Rattle.model.specs.Triggers.{State}
+use Rattle.model.specs.State.{State}
 use Rattle.model.specs.Refusals.{refuse, firstOf, wrongLength, imageRefusals, entryRefusals, listRefusals}
 use Rattle.model.specs.declared.answer.Answer.the-variants.{Done, WrongLength, FlatMemory, Unsound, ShortBuffer}
 
@@ -53,6 +54,6 @@ module _ (room : ℕ) (s : State) (n : ℕ) where
   list-good d h = three-done _ _ _ _ d ∙ pick-false _ _ h
 
   -- a list that is not refused has its image's length, and room for its answers
-  pub list-fits : isDone (firstOf (listRefusals room s n)) ≡ true → (length (s .image) ≡ 768) × (n ≤ room)
+  pub list-fits : isDone (firstOf (listRefusals room s n)) ≡ true → (length (s .image) ≡ imageLength) × (n ≤ room)
   unfolding listRefusals entryRefusals imageRefusals wrongLength
   list-fits d = let f = four-done _ _ _ _ d in (eqb-true _ _ (not-false _ (f .0)), ltb-false _ _ (f .1))

@@ -1,4 +1,4 @@
--- Runs of events, the refusals of a list, and that a list and a file say the same.
+-- Runs of events, the refusals of a list, and that calls, a list and a file say the same.
 pub mod Runs
 pub mod Admission
 pub mod Theorem

@@ -1,2 +1,2 @@
--- A list of events and a night file say the same.
+-- Public calls, a list of events and a night file say the same.
 pub mod SaySame

@@ -4,12 +4,12 @@ use mathlib.Core.List.{List, [], _∷_, _++_, map}
 use Prim.Native.Nat.{ℕ, suc, _≤_}
 use lib.ListN.{length, take, drop}
 use Rattle.model.specs.Answers.{number}
-use Rattle.model.specs.Triggers.{State}
-use Rattle.model.specs.Step.{Out}
+use Rattle.model.specs.State.{State}
+use Rattle.model.specs.Step.{Stepped}
 use Rattle.model.specs.Outcome.{Outcome, startOutcome, listOutcome}
-use Rattle.model.specs.File.{recordCount, imageIn, eventsIn, checked}
+use Rattle.model.specs.File.{recordCount, imageIn, eventsIn, fileCheck}
 use Rattle.model.specs.Text.{line}
-use Rattle.model.specs.Night.{nightOf, printed}
+use Rattle.model.specs.Night.{nightOf, printedText}
 use Rattle.model.specs.declared.answer.Answer.the-variants.{Done}
 use Rattle.model.specs.declared.file.FileCheck.the-variants.{Good}
 use Rattle.laws.specs.Reading.{givenBy}
@@ -18,7 +18,7 @@ use Rattle.laws_sound.specs.Reached.{eventsOf, Roomy}
 
 -- a file that is replayed: the check of it finds nothing to refuse
 abbrev pub Replayed : List ℕ → Type 0
-Replayed file = checked file ≡ Good (recordCount file)
+Replayed file = fileCheck file ≡ Good (recordCount file)
 
 -- ---- calls
 
@@ -42,7 +42,7 @@ linesWith index (a ∷ answers) [] = []
 linesWith index (a ∷ answers) (bytes ∷ shown) = line index a bytes ++ linesWith (suc index) answers shown
 
 -- what the reads of a night give
-unfoldable pub shownIn : List Out → List (List ℕ)
+unfoldable pub shownIn : List Stepped → List (List ℕ)
 shownIn os = map (λ o. o .bytes) os
 
 -- the answer buffer has room for every record
@@ -56,5 +56,5 @@ listCall file answers = listOutcome (startOutcome (imageIn file) .state) answers
 -- it is not refused; its answers, one for each record, are those of the printed lines; the rest of the buffer is as it was
 pub record SaySame (file answers : List ℕ) : Type 0 where
   pub taken : listCall file answers .answer ≡ Done
-  pub same : printed file ≡ linesWith 0 (take (recordCount file) (listCall file answers .buffer)) (shownIn (nightOf file))
+  pub same : printedText file ≡ linesWith 0 (take (recordCount file) (listCall file answers .buffer)) (shownIn (nightOf file))
   pub rest : drop (recordCount file) (listCall file answers .buffer) ≡ drop (recordCount file) answers

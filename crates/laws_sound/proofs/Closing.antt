@@ -11,10 +11,10 @@ use Rattle.bits.specs.Sets.{has}
 use Rattle.bits.proofs.Tests.{split, clash, bool-eq}
 use Rattle.model.specs.Statuses.{inProgress}
 use Rattle.model.specs.PathStates.{stateOf, resting}
-use Rattle.model.specs.Lanes.{isInProgress, isPassing, heldIn}
+use Rattle.model.specs.Records.{isInProgress, isPassing, heldIn}
 use Rattle.model.specs.View.{of, applicationIn, appSel, pathId, isUsed, samePath, pathOf, fills}
 use Rattle.model.specs.Verdicts.{deactivated}
-use Rattle.model.specs.Work.{written}
+use Rattle.model.specs.Work.{writtenSettings}
 use Rattle.model.specs.declared.lane.Verdict.the-variants.{Pass, Reject}
 use Rattle.model.specs.declared.lane.Progress.{Progress}
 use Rattle.model.specs.declared.lane.Stage.{Stage}
@@ -133,7 +133,7 @@ module _ (o : Seen) (S : Sound o) (k n : ℕ) (p₀ : Progress) (b₀ : k < 8) (
   P₀ : Passes o (p₀ .group) n
   P₀ = S .passes k n p₀ b₀ e₀ q₀
 
-  copied : (m : ℕ) → m < 8 → has (p₀ .group) m ≡ true → of (o .active) m ≡ written (held o m)
+  copied : (m : ℕ) → m < 8 → has (p₀ .group) m ≡ true → of (o .active) m ≡ writtenSettings (held o m)
   copied m b i = P₀ .copied m b i (omega arith)
 
   held-used : (m : ℕ) → m < 8 → has (p₀ .group) m ≡ true → isUsed (held o m) ≡ isUsed (of (o .active) m)

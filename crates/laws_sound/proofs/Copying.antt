@@ -9,9 +9,9 @@ use native.Mathlib.Omega.{arith}
 use Rattle.bits.specs.Sets.{has, nextIn}
 use Rattle.bits.proofs.Tests.{split, clash}
 use Rattle.bits.proofs.Masks.{mask-ext, next-le, next-bound, next-skips, next-in}
-use Rattle.model.specs.Lanes.{isInProgress, isPass, isPassing, heldIn, withVerdict}
+use Rattle.model.specs.Records.{isInProgress, isPass, isPassing, heldIn, withVerdict}
 use Rattle.model.specs.View.{of, pathId, isUsed, samePath, pathOf}
-use Rattle.model.specs.Work.{written}
+use Rattle.model.specs.Work.{writtenSettings}
 use Rattle.model.specs.Sound.{notCopied}
 use Rattle.model.specs.declared.lane.Settings.{Settings}
 use Rattle.model.specs.declared.lane.Verdict.{Verdict}
@@ -92,7 +92,7 @@ module _ (o : Seen) (S : Sound o) (k n : ℕ) (p₀ : Progress) (b₀ : k < 8) (
   module _ (st : ℕ → Stage) (av : List Settings)
       (went-on : (l : ℕ) → l < 8 → has (p₀ .group) l ≡ true → st l ≡ withVerdict (o .stage l) (Pass n′))
       (kept : (l : ℕ) → l < 8 → has (p₀ .group) l ≡ false → st l ≡ o .stage l)
-      (at-n : of av n ≡ written (held o n))
+      (at-n : of av n ≡ writtenSettings (held o n))
       (at-other : (l : ℕ) → l < 8 → l ≢ n → of av l ≡ of (o .active) l) where
     held-same : (l : ℕ) → l < 8 → heldIn (st l) ≡ held o l
     held-same l b = split (has (p₀ .group) l)
@@ -186,7 +186,7 @@ module _ (o : Seen) (S : Sound o) (k n : ℕ) (p₀ : Progress) (b₀ : k < 8) (
         })
 
     -- what is copied now: the lanes copied before, and lane n
-    copied-now : (m : ℕ) → m < 8 → has (p₀ .group) m ≡ true → m < n′ → of av m ≡ written (held o m)
+    copied-now : (m : ℕ) → m < 8 → has (p₀ .group) m ≡ true → m < n′ → of av m ≡ writtenSettings (held o m)
     copied-now m b i h = elim (ℕ-discrete m n) [
       | yes e ↦ rw e at-n
       | no d ↦ elim (decLt m n) [

@@ -7,14 +7,14 @@ use native.Mathlib.Omega.{arith}
 use lib.Dec.{eqb}
 use borrow.Author.Tests.{ltb-false, eqb-true, eq-eqb, not-true, not-false}
 use Rattle.bits.specs.Choice.{pick, both, either}
-use Rattle.bits.specs.Sets.{has, maskOf}
+use Rattle.bits.specs.Sets.{has, maskOf, within, firstIn}
 use Rattle.bits.proofs.Tests.{split, clash, bool-eq, both-l, both-r, both-i, either-l, either-r, either-cases, either-i-l, either-i-r, pick-true, pick-false}
 use Rattle.bits.proofs.Loops.{any-none}
 use Rattle.bits.proofs.Masks.{has-mask, mask-ext, mask-lt, mask-of-has, first-in}
 use Rattle.model.specs.Statuses.{rejected, invalidApplication, invalidPath, invalidSettings, lanesInUse, partialPath}
 use Rattle.model.specs.PathStates.{stateOf, resting}
-use Rattle.model.specs.View.{View, of, applicationIn, appSel, pathId, isUsed, samePath, pathOf, within}
-use Rattle.model.specs.Groups.{joined, releasedWith, inGroup, groupOf, firstIn}
+use Rattle.model.specs.View.{View, of, applicationIn, appSel, pathId, isUsed, samePath, pathOf}
+use Rattle.model.specs.Groups.{joined, releasedWith, inGroup, groupOf}
 use Rattle.model.specs.Verdicts.{deactivated, groupState, otherAppSel, misplaced, incomplete, crossing, wrongState, passed, applyBy, applyVerdict, pathRelease, releaseVerdict, verdictOf}
 use Rattle.model.specs.declared.lane.Trigger.{Trigger}
 use Rattle.model.specs.declared.lane.Verdict.{Verdict}

@@ -7,15 +7,15 @@ use native.Mathlib.Omega.{arith}
 use lib.Dec.{eqb}
 use borrow.Author.Tests.{eqb-true, eq-eqb, le-leb, not-true}
 use Rattle.bits.specs.Choice.{pick}
-use Rattle.bits.specs.Sets.{has}
+use Rattle.bits.specs.Sets.{has, firstIn}
 use Rattle.bits.proofs.Tests.{split, clash, both-l, both-r, both-i, either-cases, bool-eq, pick-true, pick-false}
 use Rattle.bits.proofs.Loops.{any-none}
 use Rattle.bits.proofs.Masks.{mask-ext, first-in, next-skips}
 use Rattle.model.specs.Statuses.{inProgress}
 use Rattle.model.specs.PathStates.{stateOf, resting}
-use Rattle.model.specs.Lanes.{stageAt, isInProgress, isPassing, heldIn, anyInProgress}
+use Rattle.model.specs.Records.{stageAt, isInProgress, isPassing, heldIn, anyInProgress}
 use Rattle.model.specs.View.{View, of, stateIn, isUsed, samePath, pathOf, fills}
-use Rattle.model.specs.Groups.{inGroup, groupOf, firstIn}
+use Rattle.model.specs.Groups.{inGroup, groupOf}
 use Rattle.model.specs.Verdicts.{deactivated, verdictOf}
 use Rattle.model.specs.Triggers.{isMarked, markedStage, stageAfter}
 use Rattle.model.specs.declared.lane.Trigger.{Trigger}
@@ -24,8 +24,8 @@ use Rattle.model.specs.declared.lane.Progress.{Progress}
 use Rattle.model.specs.declared.lane.Stage.{Stage}
 use Rattle.model.specs.declared.lane.Stage.the-variants.{InProgress}
 use Rattle.model.specs.declared.lane.Working.{Working}
-use Rattle.laws_frames.proofs.Back.{Fits}
 use Rattle.laws_sound.specs.Sound.{Seen, held, Mate, Grouped, OnePath, Passes, Sound}
+use Rattle.laws_frames.specs.Frames.{Fits}
 use Rattle.laws_sound.proofs.Paths.{same-together, same-sym, same-trans, path-has}
 use Rattle.laws_sound.proofs.Test.{copied-not, one-fewer, one-none}
 use Rattle.laws_sound.proofs.Stranger.{in-progress, idle-passing}

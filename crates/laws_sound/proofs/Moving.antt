@@ -5,7 +5,7 @@ use mathlib.Core.List.{List}
 use Prim.Native.Nat.{ℕ, _≤_, _<_}
 use Rattle.bits.specs.Sets.{has}
 use Rattle.bits.proofs.Tests.{split, clash}
-use Rattle.model.specs.Lanes.{isPassing}
+use Rattle.model.specs.Records.{isPassing}
 use Rattle.model.specs.View.{of, stateIn, isUsed, samePath}
 use Rattle.model.specs.declared.lane.Verdict.the-variants.{Pass}
 use Rattle.model.specs.declared.lane.Progress.{Progress}

@@ -8,14 +8,16 @@ use lib.Dec.{ltb}
 use lib.ListN.{length}
 use borrow.Author.Tests.{ltb-false, le-ltb}
 use Rattle.bits.specs.Choice.{pick}
+use Rattle.bits.specs.Loop.{tab}
 use Rattle.bits.proofs.Tests.{split, either-l, either-r, pick-true, pick-false}
+use Rattle.bits.proofs.Loops.{length-tab}
 use Rattle.model.specs.Answers.{number}
-use Rattle.model.specs.Triggers.{State}
+use Rattle.model.specs.State.{State}
 use Rattle.model.specs.Work.{early}
 use Rattle.model.specs.Access.{isBadAccess, readLimit}
 use Rattle.model.specs.Refusals.{Refusal, firstOf, entryRefusals, eventRefusals, listRefusals}
 use Rattle.model.specs.Step.{step, run, ending}
-use Rattle.model.specs.Outcome.{laidOver, stepOutcome, listRoom, numbersOf, listBy, listOutcome}
+use Rattle.model.specs.Outcome.{laidOver, stepOutcome, listRoom, numbersOf, listOutcomeBy, listOutcome}
 use Rattle.model.specs.declared.answer.Answer.the-variants.{Done}
 use Rattle.model.specs.declared.event.Call.{Call}
 use Rattle.model.specs.declared.event.Call.the-variants.{Write, Read, Work, Hardware, Condition, Sample}
@@ -90,7 +92,7 @@ pub list-is-calls : (s : State) (answers : List ℕ) (cs : List Called) → Room
     → listOutcome s answers (eventsOf cs) .answer ≡ Done
     → (listOutcome s answers (eventsOf cs) .state ≡ stateAfter s cs)
     × (listOutcome s answers (eventsOf cs) .buffer ≡ laidOver (answersOf (outcomes s cs)) answers)
-unfolding listOutcome listBy listRefusals
+unfolding listOutcome listOutcomeBy listRefusals
 list-is-calls s answers cs r d =
     let e : firstOf (listRefusals (length answers) s (length (eventsOf cs))) ≡ Done = sym (list-answer s answers (eventsOf cs)) ∙ d in
     let a : Accepted s = fewer-refusals (entryRefusals s) _ e in
@@ -98,3 +100,12 @@ list-is-calls s answers cs r d =
       sym (asked-once-state s cs a ∙ run-ends s cs r),
       ap (λ ns. laidOver ns answers) (sym (ap answersOf (asked-once s cs a) ∙ run-numbers s cs r)),
     )
+
+-- every list of events is that of such calls
+pub roomy-calls : (es : List Event) → (cs : List Called) × Roomy cs × (eventsOf cs ≡ es)
+roomy-calls [] = ([], none, refl)
+roomy-calls (e ∷ es) =
+    let r = roomy-calls es in
+    let zeros : List ℕ = tab listRoom (λ k. 0) in
+    let n : listRoom ≤ length zeros = omega (arith, length-tab {A = ℕ} listRoom (λ k. 0)) in
+    (record { event = e; buffer = zeros } ∷ r .0, one n (r .1), ap (λ ds. e ∷ ds) (r .2))

@@ -14,21 +14,22 @@ use Rattle.bits.specs.Loop.{allBelow}
 use Rattle.bits.specs.declared.Place.{Place}
 use Rattle.bits.proofs.Tests.{implies-use}
 use Rattle.bits.proofs.Loops.{all-at, tab-at}
-use Rattle.model.specs.Map.{Image, activeSet, statusAt, pendingAt, stateAt}
+use Rattle.model.specs.Map.{Image, activeSet, statusAt, pendingAt, stateAt, imageLength, stateBytes, pendingByte}
 use Rattle.model.specs.PathStates.{codeOf, stateOf}
-use Rattle.model.specs.Lanes.{stageAt, isInProgress}
+use Rattle.model.specs.Records.{stageAt, isInProgress}
 use Rattle.model.specs.View.{settingsOf, statesOf, of, stateIn, isUsed, pathOf}
-use Rattle.model.specs.Triggers.{State}
-use Rattle.model.specs.Hardware.{nextState, withState, entered, moved, movedPath, hardwareMoved}
-use Rattle.model.specs.Access.{withImage}
+use Rattle.model.specs.State.{State, withImage}
+use Rattle.model.specs.Hardware.{nextState, enteredImage, movedImage, movedPathImage, hardwareImage}
+use Rattle.model.specs.Registers.{withPathState}
 use Rattle.model.specs.declared.path.PathState.{PathState}
 use Rattle.model.specs.declared.path.Signals.{Signals}
 use Rattle.model.specs.declared.path.PathState.the-variants.{Reserved, Deactivated, Init, Deinit, Activated, TxTurnOn, TxTurnOff, Initialized}
 use Rattle.laws_frames.proofs.Outside.{below-range, above-range}
 use Rattle.laws_frames.proofs.Registers.{settings-same, applications-same, status-same, state-same, pending-same}
-use Rattle.laws_frames.proofs.Changes.{SameOffPath, off-advertised, entered-off, state-outside, pending-outside, flags-outside}
+use Rattle.laws_frames.proofs.Changes.{off-advertised, entered-off, state-outside, pending-outside, flags-outside}
 use Rattle.laws_frames.proofs.Back.{state-in, state-out, pending-out}
 use Rattle.laws_sound.specs.Sound.{Seen, seenOf, InWhole}
+use Rattle.laws_frames.specs.Frames.{stateEnd, pendingEnd, SameOffPath}
 use Rattle.laws_sound.proofs.Paths.{path-has}
 use Rattle.laws_sound.proofs.Stranger.{idle-passing}
 use Rattle.laws_sound.proofs.Closing.{quiet-sound}
@@ -83,25 +84,25 @@ only-get true f x p e = e
 only-get false f x p e = refl
 
 module _ (g : ℕ) (from to : PathState) (x : Image) (m : ℕ) (b : m < 8) where
-  entered-state : get (entered g from to x) (stateAt m) ≡ get (withState g to x) (stateAt m)
-  unfolding entered
+  entered-state : get (enteredImage g from to x) (stateAt m) ≡ get (withPathState g to x) (stateAt m)
+  unfolding enteredImage
   entered-state =
-      only-get _ _ _ (stateAt m) (state-same _ _ m b (below-range 640 644 (omega arith) (flags-outside 134 g _)))
-      ∙ only-get _ _ _ (stateAt m) (state-same _ _ m b (below-range 640 644 (omega arith) (pending-outside (has g) 0 _)))
+      only-get _ _ _ (stateAt m) (state-same _ _ m b (below-range stateBytes stateEnd (omega arith) (flags-outside 134 g _)))
+      ∙ only-get _ _ _ (stateAt m) (state-same _ _ m b (below-range stateBytes stateEnd (omega arith) (pending-outside (has g) 0 _)))
 
-  entered-pending : length x ≡ 768 → has g m ≡ false → get (entered g from to x) (pendingAt m) ≡ get x (pendingAt m)
-  unfolding entered
+  entered-pending : length x ≡ imageLength → has g m ≡ false → get (enteredImage g from to x) (pendingAt m) ≡ get x (pendingAt m)
+  unfolding enteredImage
   entered-pending n i =
-      only-get _ _ _ (pendingAt m) (pending-same _ _ m b (above-range 747 748 (omega arith) (flags-outside 134 g _)))
-      ∙ only-get _ _ _ (pendingAt m) (pending-out (withState g to x) m (state-outside g to x .size ∙ n) b (has g) 0 i)
-      ∙ pending-same x _ m b (above-range 747 748 (omega arith) (state-outside g to x))
+      only-get _ _ _ (pendingAt m) (pending-same _ _ m b (above-range pendingByte pendingEnd (omega arith) (flags-outside 134 g _)))
+      ∙ only-get _ _ _ (pendingAt m) (pending-out (withPathState g to x) m (state-outside g to x .size ∙ n) b (has g) 0 i)
+      ∙ pending-same x _ m b (above-range pendingByte pendingEnd (omega arith) (state-outside g to x))
 
 -- ---- the event
 module _ (two : ℕ) (s : State) (W : Well two s) (l : ℕ) (b : l < 8) (idle : isInProgress (stageAt (s .working) l) ≡ false) where
   abbrev path : ℕ
   path = pathOf (settingsOf activeSet (s .image)) l
 
-  entered-well : (from to : PathState) → 1 ≤ codeOf to → Well two (withImage s (entered path from to (s .image)))
+  entered-well : (from to : PathState) → 1 ≤ codeOf to → Well two (withImage s (enteredImage path from to (s .image)))
   entered-well from to low = record {
     size = off .size ∙ W .size;
     low = off .byte 2 (inl (omega arith)) (inl (omega arith)) (inl (omega arith)) ∙ W .low;
@@ -122,7 +123,7 @@ module _ (two : ℕ) (s : State) (W : Well two s) (l : ℕ) (b : l < 8) (idle : 
   }
     where
       y : Image
-      y = entered path from to (s .image)
+      y = enteredImage path from to (s .image)
 
       off : SameOffPath (s .image) y
       off = entered-off path from to (s .image)
@@ -137,13 +138,13 @@ module _ (two : ℕ) (s : State) (W : Well two s) (l : ℕ) (b : l < 8) (idle : 
         pending = λ m. get y (pendingAt m);
       }
 
-  moved-well : (c : Bool) (from to : PathState) → 1 ≤ codeOf to → Well two (withImage s (onlyIf c (entered path from to) (s .image)))
+  moved-well : (c : Bool) (from to : PathState) → 1 ≤ codeOf to → Well two (withImage s (onlyIf c (enteredImage path from to) (s .image)))
   unfolding onlyIf
   moved-well true from to low = entered-well from to low
   moved-well false from to low = W
 
-  pub hardware-well : isUsed (of (settingsOf activeSet (s .image)) l) ≡ true → Well two (withImage s (hardwareMoved (s .image) l))
-  unfolding hardwareMoved movedPath moved
+  pub hardware-well : isUsed (of (settingsOf activeSet (s .image)) l) ≡ true → Well two (withImage s (hardwareImage (s .image) l))
+  unfolding hardwareImage movedPathImage movedImage
   hardware-well u =
       let I : InWhole (seenOf s) l = W .sound .used l b (idle-passing _ idle) u in
       let e : stateIn (statesOf (s .image)) l ≡ get (s .image) (stateAt l) = states-lane (s .image) l b in

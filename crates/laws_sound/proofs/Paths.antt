@@ -8,12 +8,12 @@ use lib.Dec.{eqb, leb, ltb}
 use borrow.Author.Tests.{ltb-true, leb-true, eqb-true, lt-ltb, le-leb, eq-eqb}
 use Rattle.bits.specs.Choice.{pick}
 use Rattle.bits.specs.Number.{field}
-use Rattle.bits.specs.Sets.{has, maskOf}
+use Rattle.bits.specs.Sets.{has, maskOf, within}
 use Rattle.bits.proofs.Tests.{split, clash, both-l, both-r, both-i}
 use Rattle.bits.proofs.Masks.{has-mask, mask-lt, mask-ext, mask-of-has}
-use Rattle.model.specs.Lanes.{noSettings}
-use Rattle.model.specs.View.{of, appSel, pathId, explicit, isUsed, samePath, pathOf, within, fills}
-use Rattle.model.specs.Work.{byModule, written}
+use Rattle.model.specs.Records.{noSettings}
+use Rattle.model.specs.View.{of, appSel, pathId, explicit, isUsed, samePath, pathOf, fills}
+use Rattle.model.specs.Work.{byModule, writtenSettings}
 use Rattle.model.specs.declared.lane.Settings.{Settings}
 use Rattle.model.specs.declared.application.Lookup.{Lookup}
 use Rattle.model.specs.declared.application.Lookup.the-variants.{Missing, Found}
@@ -88,15 +88,15 @@ fills-ext a f g c e h =
 
 -- ---- what copying writes: used exactly where it is held, with the same AppSel and id
 
-written-config : (h : Settings) → isUsed h ≡ true → written h .config ≡ h .config
-unfolding written pick byModule
+written-config : (h : Settings) → isUsed h ≡ true → writtenSettings h .config ≡ h .config
+unfolding writtenSettings pick byModule
 written-config h u = rw (u, pick) (split (eqb (explicit h) 1) (λ e. rw (e, pick)) (λ e. rw (e, pick)))
 
-pub written-app : (h : Settings) → isUsed h ≡ true → appSel (written h) ≡ appSel h
+pub written-app : (h : Settings) → isUsed h ≡ true → appSel (writtenSettings h) ≡ appSel h
 unfolding appSel
 written-app h u = rw (written-config h u)
 
-pub written-id : (h : Settings) → isUsed h ≡ true → pathId (written h) ≡ pathId h
+pub written-id : (h : Settings) → isUsed h ≡ true → pathId (writtenSettings h) ≡ pathId h
 unfolding pathId
 written-id h u = rw (written-config h u)
 
@@ -104,8 +104,8 @@ none-unused : isUsed noSettings ≡ false
 unfolding isUsed appSel field
 none-unused = refl
 
-pub written-used : (h : Settings) → isUsed (written h) ≡ isUsed h
-unfolding written pick
+pub written-used : (h : Settings) → isUsed (writtenSettings h) ≡ isUsed h
+unfolding writtenSettings pick
 written-used h = split (isUsed h)
-    (λ u. used-app h (written h) (written-app h u) u ∙ sym u)
+    (λ u. used-app h (writtenSettings h) (written-app h u) u ∙ sym u)
     (λ u. rw (u, pick) none-unused)

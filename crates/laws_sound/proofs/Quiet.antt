@@ -12,28 +12,29 @@ use borrow.Author.Tests.{leb-true, ltb-true}
 use Rattle.bits.specs.Choice.{both, either}
 use Rattle.bits.specs.Place.{get}
 use Rattle.bits.proofs.Tests.{split, clash, both-l, both-r, either-cases}
-use Rattle.model.specs.Map.{Image, Range, on, page11, inRanges, writableRanges, writable, clearedRanges, clearing, activeSet, statusAt, pendingAt}
-use Rattle.model.specs.Triggers.{State}
-use Rattle.model.specs.Flags.{isConditionFlag, conditionSet, sampled, settled}
-use Rattle.model.specs.Pages.{pageSelected}
-use Rattle.model.specs.Access.{cleared}
+use Rattle.model.specs.Map.{Image, Range, on, page11, inRanges, writableRanges, writable, clearedRanges, clearing, activeSet, statusAt, pendingAt, imageLength, statusBytes, page10, flagBytes}
+use Rattle.model.specs.State.{State}
+use Rattle.model.specs.Flags.{isConditionFlag, conditionImage, sampledImage, settledImage}
+use Rattle.model.specs.Pages.{selectedImage}
+use Rattle.model.specs.Access.{clearedImage}
 use Rattle.model.specs.declared.lane.Working.{Working}
-use Rattle.laws_frames.proofs.Outside.{Beside, SameOutside, set-outside}
-use Rattle.laws_frames.proofs.Registers.{Advertised, settings-same, states-same, applications-same, status-same, pending-same}
+use Rattle.laws_frames.proofs.Outside.{set-outside}
+use Rattle.laws_frames.proofs.Registers.{settings-same, states-same, applications-same, status-same, pending-same}
 use Rattle.laws_frames.proofs.Changes.{settled-outside, sampled-outside, flags-outside, selected-outside, cleared-byte, cleared-length}
 use Rattle.laws_sound.specs.Sound.{seenOf, Sound}
+use Rattle.laws_frames.specs.Frames.{Beside, SameOutside, stateEnd, Advertised}
 use Rattle.laws_sound.proofs.Closing.{quiet-sound}
 
--- what holds of every state reached: 768 bytes, lower byte 2 as it was, sound
+-- what holds of every state reached: the length of its image, lower byte 2 as it was, sound
 pub record Well (two : ℕ) (s : State) : Type 0 where
-  pub size : length (s .image) ≡ 768
+  pub size : length (s .image) ≡ imageLength
   pub low : getD (s .image) 2 0 ≡ two
   pub sound : Sound (seenOf s)
 
 -- ---- bytes that soundness does not look at
 
 abbrev pub Free : ℕ → Type 0
-Free i = ((3 ≤ i) × (i < 86)) ⊎ (((118 ≤ i) × (i < 128)) ⊎ (((512 ≤ i) × (i < 640)) ⊎ ((644 ≤ i) × (i < 714))))
+Free i = ((3 ≤ i) × (i < 86)) ⊎ (((118 ≤ i) × (i < 128)) ⊎ (((page10 ≤ i) × (i < page11)) ⊎ ((stateEnd ≤ i) × (i < statusBytes))))
 
 -- the others stay
 pub record Quiet (x y : Image) : Type 0 where
@@ -56,13 +57,13 @@ advertised-kept i (inr d) (inr (inl h)) = omega arith
 advertised-kept i (inr d) (inr (inr (inl h))) = omega arith
 advertised-kept i (inr d) (inr (inr (inr h))) = omega arith
 
-state-kept : (i : ℕ) → 640 ≤ i → i < 644 → Free i → ⊥
+state-kept : (i : ℕ) → page11 ≤ i → i < stateEnd → Free i → ⊥
 state-kept i a b (inl h) = omega arith
 state-kept i a b (inr (inl h)) = omega arith
 state-kept i a b (inr (inr (inl h))) = omega arith
 state-kept i a b (inr (inr (inr h))) = omega arith
 
-lane-kept : (i : ℕ) → 714 ≤ i → Free i → ⊥
+lane-kept : (i : ℕ) → statusBytes ≤ i → Free i → ⊥
 lane-kept i a (inl h) = omega arith
 lane-kept i a (inr (inl h)) = omega arith
 lane-kept i a (inr (inr (inl h))) = omega arith
@@ -99,7 +100,7 @@ unfoldable freeRange : Range → Bool
 freeRange r =
     either (both (leb 3 (r .from)) (ltb (r .to) 86))
     (either (both (leb 118 (r .from)) (ltb (r .to) 128))
-    (either (both (leb 512 (r .from)) (ltb (r .to) 640)) (both (leb 644 (r .from)) (ltb (r .to) 714))))
+    (either (both (leb page10 (r .from)) (ltb (r .to) page11)) (both (leb stateEnd (r .from)) (ltb (r .to) statusBytes))))
 
 unfoldable allFree : List Range → Bool
 allFree [] = true
@@ -121,8 +122,8 @@ range-free r i e a b = elim (either-cases _ _ e) [
   | inr k ↦ elim (either-cases _ _ k) [
     | inl h ↦ inr (inl (inside 118 128 (r .from) (r .to) i h a b))
     | inr l ↦ elim (either-cases _ _ l) [
-      | inl h ↦ inr (inr (inl (inside 512 640 (r .from) (r .to) i h a b)))
-      | inr h ↦ inr (inr (inr (inside 644 714 (r .from) (r .to) i h a b)))
+      | inl h ↦ inr (inr (inl (inside page10 page11 (r .from) (r .to) i h a b)))
+      | inr h ↦ inr (inr (inr (inside stateEnd statusBytes (r .from) (r .to) i h a b)))
     ]
   ]
 ]
@@ -164,21 +165,21 @@ condition-free flag e = elim (either-cases _ _ e) [
 pub set-quiet : (x : Image) (i v : ℕ) → writable i ≡ true → Quiet x (set x i v)
 set-quiet x i v e = quiet-of i (suc i) (λ j a b. let q : i ≡ j = omega arith in rw (← q) (writable-free i e)) (set-outside x i v)
 
-pub selected-quiet : (page : ℕ) (x : Image) → Quiet x (pageSelected page x)
+pub selected-quiet : (page : ℕ) (x : Image) → Quiet x (selectedImage page x)
 selected-quiet page x = quiet-of 126 128 (λ i a b. inr (inl (omega arith, omega arith))) (selected-outside page x)
 
-pub settled-quiet : (x : Image) → Quiet x (settled x)
+pub settled-quiet : (x : Image) → Quiet x (settledImage x)
 settled-quiet x = quiet-of 3 4 (λ i a b. inl (omega arith, omega arith)) (settled-outside x)
 
-pub sampled-quiet : (l p : ℕ) (x : Image) → l < 8 → Quiet x (sampled l p x)
-sampled-quiet l p x b = quiet-of 646 714 (λ i a c. inr (inr (inr (omega arith, omega arith)))) (sampled-outside l p x b)
+pub sampled-quiet : (l p : ℕ) (x : Image) → l < 8 → Quiet x (sampledImage l p x)
+sampled-quiet l p x b = quiet-of flagBytes statusBytes (λ i a c. inr (inr (inr (omega arith, omega arith)))) (sampled-outside l p x b)
 
-pub condition-quiet : (flag mask : ℕ) (x : Image) → isConditionFlag flag ≡ true → Quiet x (conditionSet flag mask x)
-unfolding conditionSet
+pub condition-quiet : (flag mask : ℕ) (x : Image) → isConditionFlag flag ≡ true → Quiet x (conditionImage flag mask x)
+unfolding conditionImage
 condition-quiet flag mask x e = quiet-of (on page11 flag) (on page11 flag + 1)
     (λ i a b. let q : on page11 flag ≡ i = omega arith in rw (← q) (condition-free flag e)) (flags-outside flag mask x)
 
-pub cleared-quiet : (x : Image) (i n : ℕ) → Quiet x (cleared x i n)
+pub cleared-quiet : (x : Image) (i n : ℕ) → Quiet x (clearedImage x i n)
 cleared-quiet x i n = record {
   size = cleared-length x i n;
   byte = λ j f. cleared-byte x i n j (split (clearing j) (λ t. absurd (f (clearing-free j t))) (λ t. t));

@@ -14,13 +14,13 @@ use Rattle.bits.specs.Place.{get}
 use Rattle.bits.proofs.Tests.{clash, pick-true}
 use Rattle.model.specs.Map.{Image}
 use Rattle.model.specs.Answers.{isDone}
-use Rattle.model.specs.Triggers.{State}
+use Rattle.model.specs.State.{State}
 use Rattle.model.specs.Work.{early}
-use Rattle.model.specs.Start.{started}
+use Rattle.model.specs.Start.{startedState}
 use Rattle.model.specs.Sound.{isSound}
 use Rattle.model.specs.Refusals.{firstOf, isFlat, wrongLength, imageRefusals, startRefusals, entryRefusals}
 use Rattle.model.specs.Step.{step}
-use Rattle.model.specs.Outcome.{startBy, startOutcome, stepOutcome, callBy, callOutcome, listOutcome}
+use Rattle.model.specs.Outcome.{startOutcomeBy, startOutcome, stepOutcome, callOutcomeBy, callOutcome, listOutcome}
 use Rattle.model.specs.declared.answer.Answer.{Answer}
 use Rattle.model.specs.declared.answer.Answer.the-variants.{Done}
 use Rattle.model.specs.declared.event.Event.{Event}
@@ -39,8 +39,8 @@ pub sound-is-tested : (s : State) → (isSound s ≡ true → Sound (seenOf s)) 
 sound-is-tested s = (test-sound s, sound-test s)
 
 -- ---- 2: start is sound, whatever the image
-pub start-sound : (x : Image) → isSound (started x) ≡ true
-start-sound x = sound-test (started x) (start-well x .sound)
+pub start-sound : (x : Image) → isSound (startedState x) ≡ true
+start-sound x = sound-test (startedState x) (start-well x .sound)
 
 -- ---- 3: every event, refused or done, leaves a sound state sound
 pub step-sound : (room : ℕ) (s : State) (e : Event) → Fit s → Fit (step early room s e .state)
@@ -76,17 +76,17 @@ unfolding entryRefusals imageRefusals wrongLength isFlat get firstOf pick
 accepted two s W f = rw (W .low, f, W .size, sound-test s (W .sound))
 
 -- a start that is done leaves what start makes of the image ..
-pub start-leaves : (x : Image) → StartDone x → startOutcome x .state ≡ started x
-unfolding startOutcome startBy
+pub start-leaves : (x : Image) → StartDone x → startOutcome x .state ≡ startedState x
+unfolding startOutcome startOutcomeBy
 start-leaves x d = pick-true _ _ (is-done d)
 
 paged-start : (x : Image) → StartDone x → eqb (field (getD x 2 0) 7 1) 1 ≡ false
-unfolding startOutcome startBy startRefusals imageRefusals isFlat get isDone
+unfolding startOutcome startOutcomeBy startRefusals imageRefusals isFlat get isDone
 paged-start x d = not-refused _ _ refl (not-refused _ _ refl (is-done d) .1) .0
 
 -- .. and that is accepted
-pub start-accepted : (x : Image) → StartDone x → Accepted (started x)
-start-accepted x d = accepted (getD x 2 0) (started x) (start-well x) (paged-start x d)
+pub start-accepted : (x : Image) → StartDone x → Accepted (startedState x)
+start-accepted x d = accepted (getD x 2 0) (startedState x) (start-well x) (paged-start x d)
 
 -- so is a state that an accepted one leads to
 pub still-accepted : (room : ℕ) (s : State) (e : Event) → Accepted s → Accepted (step early room s e .state)
@@ -95,7 +95,7 @@ still-accepted room s e a = let E : Entered s = enters s a in
 
 -- a call on an accepted state is a step
 pub call-is-step : (s : State) (c : Called) → Accepted s → outcomeAt s c ≡ stepAt s c
-unfolding callOutcome callBy
+unfolding callOutcome callOutcomeBy
 call-is-step s c a = pick-true _ _ (is-done a)
 
 pub call-accepted : (s : State) (c : Called) → Accepted s → Accepted (outcomeAt s c .state)

@@ -15,13 +15,14 @@ use Rattle.bits.specs.declared.Place.{Place}
 use Rattle.bits.proofs.Tests.{clash, both-l, both-r, pick-true, pick-false}
 use Rattle.bits.proofs.Number.{field-past}
 use Rattle.bits.proofs.Loops.{all-at, tab-at, length-tab}
-use Rattle.model.specs.Map.{Image, inRanges, kept, activeSet, statusAt, pendingAt, stateAt, settingAt}
-use Rattle.model.specs.Lanes.{stageAt, isInProgress}
+use Rattle.model.specs.Map.{Image, inRanges, kept, activeSet, statusAt, pendingAt, stateAt, settingAt, imageLength, page11, stateBytes, statusBytes, pendingByte, pageLength}
+use Rattle.model.specs.Records.{stageAt, isInProgress}
 use Rattle.model.specs.View.{settingsAt, settingsOf, of, appSel, isUsed}
-use Rattle.model.specs.Start.{allDeactivated, isStateByte, startValue, startByte, started}
+use Rattle.model.specs.Start.{allDeactivated, isStateByte, startValue, startByte, startedState}
 use Rattle.model.specs.declared.lane.Settings.{Settings}
 use Rattle.laws_frames.proofs.Registers.{lane-from, lane-to, setting-from, setting-to}
 use Rattle.laws_frames.proofs.Stages.{idle-stage}
+use Rattle.laws_frames.specs.Frames.{stateEnd}
 use Rattle.laws_sound.proofs.Stranger.{not-idle}
 use Rattle.laws_sound.proofs.Quiet.{Well}
 use Rattle.laws_sound.proofs.WorkSteps.{settings-lane}
@@ -29,7 +30,7 @@ use Rattle.laws_sound.proofs.PathEvents.{states-lane}
 
 -- ---- the bytes that start sets on page 11h
 
-set-bytes : allBelow 128 (λ k. both (not (kept (640 + k))) (eqb (startValue (640 + k)) (pick (ltb k 4) allDeactivated 0))) ≡ true
+set-bytes : allBelow 128 (λ k. both (not (kept (page11 + k))) (eqb (startValue (page11 + k)) (pick (ltb k 4) allDeactivated 0))) ≡ true
 unfolding allBelow both either pick kept inRanges startValue isStateByte
 set-bytes = refl
 
@@ -38,28 +39,28 @@ unfolding kept inRanges either both
 kept-two = refl
 
 module _ (x : Image) where
-  start-byte : (i : ℕ) → i < 768 → getD (started x .image) i 0 ≡ startByte x i
-  unfolding started
-  start-byte i b = tab-at 768 (startByte x) i 0 b
+  start-byte : (i : ℕ) → i < imageLength → getD (startedState x .image) i 0 ≡ startByte x i
+  unfolding startedState
+  start-byte i b = tab-at imageLength (startByte x) i 0 b
 
-  byte-set : (k : ℕ) → k < 128 → getD (started x .image) (640 + k) 0 ≡ pick (ltb k 4) allDeactivated 0
+  byte-set : (k : ℕ) → k < 128 → getD (startedState x .image) (page11 + k) 0 ≡ pick (ltb k 4) allDeactivated 0
   unfolding startByte
   byte-set k b =
       let r = all-at 128 _ set-bytes k b in
-      start-byte (640 + k) (omega arith) ∙ pick-false _ _ (not-true _ (both-l _ _ r)) ∙ eqb-true _ _ (both-r _ _ r)
+      start-byte (page11 + k) (omega arith) ∙ pick-false _ _ (not-true _ (both-l _ _ r)) ∙ eqb-true _ _ (both-r _ _ r)
 
-  zero-byte : (i : ℕ) → 644 ≤ i → i < 768 → getD (started x .image) i 0 ≡ 0
+  zero-byte : (i : ℕ) → stateEnd ≤ i → i < page11 + pageLength → getD (startedState x .image) i 0 ≡ 0
   zero-byte i a b =
-      let e : 640 + (i - 640) ≡ i = omega arith in
-      rw e at (byte-set (i - 640) (omega arith) ∙ pick-false allDeactivated 0 (le-ltb (i - 640) 4 (omega arith)))
+      let e : page11 + (i - page11) ≡ i = omega arith in
+      rw e at (byte-set (i - page11) (omega arith) ∙ pick-false allDeactivated 0 (le-ltb (i - page11) 4 (omega arith)))
 
-  state-byte : (i : ℕ) → 640 ≤ i → i < 644 → getD (started x .image) i 0 ≡ allDeactivated
+  state-byte : (i : ℕ) → page11 ≤ i → i < stateEnd → getD (startedState x .image) i 0 ≡ allDeactivated
   state-byte i a b =
-      let e : 640 + (i - 640) ≡ i = omega arith in
-      rw e at (byte-set (i - 640) (omega arith) ∙ pick-true allDeactivated 0 (lt-ltb (i - 640) 4 (omega arith)))
+      let e : page11 + (i - page11) ≡ i = omega arith in
+      rw e at (byte-set (i - page11) (omega arith) ∙ pick-true allDeactivated 0 (lt-ltb (i - page11) 4 (omega arith)))
 
   -- a place there holds 0
-  zero-place : (p : Place) → 644 ≤ p .byte → p .byte < 768 → get (started x .image) p ≡ 0
+  zero-place : (p : Place) → stateEnd ≤ p .byte → p .byte < page11 + pageLength → get (startedState x .image) p ≡ 0
   unfolding get
   zero-place p a b = rw (zero-byte (p .byte) a b) (field-past 0 0 (p .shift) (p .width) (omega arith) (omega arith))
 
@@ -69,37 +70,37 @@ nibbles : allBelow 8 (λ l. eqb (field allDeactivated (l * 4 % 8) 4) 1) ≡ true
 unfolding allBelow both field
 nibbles = refl
 
-start-state : (x : Image) (l : ℕ) → l < 8 → get (started x .image) (stateAt l) ≡ 1
+start-state : (x : Image) (l : ℕ) → l < 8 → get (startedState x .image) (stateAt l) ≡ 1
 unfolding get laneField
 start-state x l b =
-    rw (state-byte x (laneField 640 4 l .byte) (lane-from 640 4 l b refl) (lane-to 640 4 l b refl)) (eqb-true _ _ (all-at 8 _ nibbles l b))
+    rw (state-byte x (laneField stateBytes 4 l .byte) (lane-from stateBytes 4 l b refl) (lane-to stateBytes 4 l b refl)) (eqb-true _ _ (all-at 8 _ nibbles l b))
 
 no-app : (h : Settings) → h .config ≡ 0 → isUsed h ≡ false
 unfolding isUsed appSel field
 no-app h e = rw e
 
-start-unused : (x : Image) (l : ℕ) → l < 8 → isUsed (of (settingsOf activeSet (started x .image)) l) ≡ false
+start-unused : (x : Image) (l : ℕ) → l < 8 → isUsed (of (settingsOf activeSet (startedState x .image)) l) ≡ false
 unfolding settingsAt
-start-unused x l b = ap isUsed (settings-lane activeSet (started x .image) l b)
-    ∙ no-app (settingsAt activeSet (started x .image) l)
+start-unused x l b = ap isUsed (settings-lane activeSet (startedState x .image) l b)
+    ∙ no-app (settingsAt activeSet (startedState x .image) l)
     (zero-place x (settingAt activeSet 0 l) (omega (arith, setting-from activeSet 0 l (omega arith) b)) (omega (arith, setting-to activeSet 0 l (omega arith) b)))
 
-start-idle : (x : Image) (l : ℕ) → l < 8 → isInProgress (stageAt (started x .working) l) ≡ false
-unfolding started isInProgress
+start-idle : (x : Image) (l : ℕ) → l < 8 → isInProgress (stageAt (startedState x .working) l) ≡ false
+unfolding startedState isInProgress
 start-idle x l b = ap isInProgress (idle-stage l b)
 
-pub start-well : (x : Image) → Well (getD x 2 0) (started x)
-unfolding started startByte
+pub start-well : (x : Image) → Well (getD x 2 0) (startedState x)
+unfolding startedState startByte
 start-well x = record {
-  size = length-tab 768 (startByte x);
+  size = length-tab imageLength (startByte x);
   low = start-byte x 2 (omega arith) ∙ pick-true _ _ kept-two;
   sound = record {
-    told = λ l b. rw (zero-place x (statusAt l) (omega (arith, lane-from 714 4 l b refl)) (omega (arith, lane-to 714 4 l b refl))) (sym (start-idle x l b));
+    told = λ l b. rw (zero-place x (statusAt l) (omega (arith, lane-from statusBytes 4 l b refl)) (omega (arith, lane-to statusBytes 4 l b refl))) (sym (start-idle x l b));
     grouped = λ l p b e. absurd (not-idle (idle-stage l b) e);
     used = λ l b f u. absurd (clash u (start-unused x l b));
     unused = λ l b f u. record {
-      state = states-lane (started x .image) l b ∙ start-state x l b;
-      pending = zero-place x (pendingAt l) (omega (arith, lane-from 747 1 l b refl)) (omega (arith, lane-to 747 1 l b refl));
+      state = states-lane (startedState x .image) l b ∙ start-state x l b;
+      pending = zero-place x (pendingAt l) (omega (arith, lane-from pendingByte 1 l b refl)) (omega (arith, lane-to pendingByte 1 l b refl));
     };
     passes = λ l n p b e q. absurd (not-idle (idle-stage l b) e);
   };

@@ -3,7 +3,7 @@ use mathlib.Core.Path.{_≡_, refl, _∙_}
 use mathlib.Core.Bool.{Bool, true, false}
 use mathlib.Core.List.{List, [], _∷_}
 use mathlib.Core.Logic.{inl}
-use Prim.Native.Nat.{ℕ, suc, _<_}
+use Prim.Native.Nat.{ℕ, _+_, suc, _<_}
 use native.Mathlib.Omega.{arith}
 use lib.Dec.{eqb}
 use lib.ListN.{take}
@@ -11,27 +11,30 @@ use borrow.Author.Tests.{ltb-true, not-false}
 use Rattle.bits.specs.Choice.{pick}
 use Rattle.bits.specs.Place.{get}
 use Rattle.bits.proofs.Tests.{split, clash, either-l, pick-true, pick-false}
-use Rattle.model.specs.Map.{Image, pageSelect, applyDPInit, applyImmediate, stagedSet0, writable, activeSet, statusAt, pendingAt}
+use Rattle.model.specs.Map.{Image, pageSelect, applyDPInit, applyImmediate, stagedSet0, writable, activeSet, statusAt, pendingAt, setLength, stateBytes, pendingByte, statusBytes}
 use Rattle.model.specs.Statuses.{inProgress}
 use Rattle.model.specs.Answers.{isDone}
-use Rattle.model.specs.Lanes.{stageAt, isInProgress, withStages}
+use Rattle.model.specs.Records.{stageAt, isInProgress, withStages}
 use Rattle.model.specs.View.{View, viewOf, settingsOf, of, isUsed}
-use Rattle.model.specs.Triggers.{State, withStatus, isMarked, stageAfter, marked, isIgnored, triggered}
+use Rattle.model.specs.State.{State}
+use Rattle.model.specs.Registers.{withStatus}
+use Rattle.model.specs.Triggers.{isMarked, stageAfter, markedState, isIgnored, triggeredState}
 use Rattle.model.specs.Work.{early}
-use Rattle.model.specs.Access.{stored, byteWritten, bytesWritten}
+use Rattle.model.specs.Access.{storedState, byteWrittenState, bytesWrittenState}
 use Rattle.model.specs.Refusals.{Refusal, firstOf, noSuchLane, isBusy, isUnused, eventRefusals}
-use Rattle.model.specs.Step.{readAt, carried, done, refused, answered, step}
+use Rattle.model.specs.Step.{readEffect, eventEffect, doneStep, refusedStep, answeredStep, step}
 use Rattle.model.specs.declared.lane.Trigger.{Trigger}
 use Rattle.model.specs.declared.lane.Trigger.the-variants.{DpInit, Immediate}
 use Rattle.model.specs.declared.event.Call.{Call}
 use Rattle.model.specs.declared.event.Call.the-variants.{Write, Read, Work, Hardware, Condition, Sample}
 use Rattle.model.specs.declared.event.Event.{Event}
-use Rattle.laws_frames.proofs.Outside.{SameOutside, below-range, above-range}
+use Rattle.laws_frames.proofs.Outside.{below-range, above-range}
 use Rattle.laws_frames.proofs.Registers.{settings-same, states-same, advertised-below, applications-same, pending-same}
 use Rattle.laws_frames.proofs.Changes.{status-outside}
 use Rattle.laws_frames.proofs.Back.{status-in, status-out, read-fits}
 use Rattle.laws_frames.proofs.Stages.{stage-in}
 use Rattle.laws_sound.specs.Sound.{Seen, seenOf}
+use Rattle.laws_frames.specs.Frames.{SameOutside, stateEnd, statusEnd, pendingEnd}
 use Rattle.laws_sound.proofs.Closing.{quiet-sound}
 use Rattle.laws_sound.proofs.Marking.{marking}
 use Rattle.laws_sound.proofs.Quiet.{Well, quiet-well, set-quiet, selected-quiet, settled-quiet, sampled-quiet, condition-quiet, cleared-quiet}
@@ -46,19 +49,19 @@ pick-well two false s t f h = h refl
 
 -- ---- triggers
 
-marked-well : (two : ℕ) (t : Trigger) (base : ℕ) (s : State) (sel : ℕ) → Well two s → Well two (marked t (viewOf base (s .image)) s sel)
-unfolding marked viewOf
+marked-well : (two : ℕ) (t : Trigger) (base : ℕ) (s : State) (sel : ℕ) → Well two s → Well two (markedState t (viewOf base (s .image)) s sel)
+unfolding markedState viewOf
 marked-well two t base s sel W = record {
   size = changed .size ∙ W .size;
   low = changed .byte 2 (inl (omega arith)) ∙ W .low;
   sound =
       rw (
-        settings-same activeSet (s .image) y (above-range 718 747 (omega arith) changed),
-        states-same (s .image) y (below-range 640 644 (omega arith) changed),
+        settings-same activeSet (s .image) y (above-range activeSet (activeSet + setLength) (omega arith) changed),
+        states-same (s .image) y (below-range stateBytes stateEnd (omega arith) changed),
         applications-same (s .image) y (advertised-below (omega arith) changed),
       )
       (quiet-sound after (after .status) (λ l. get y (pendingAt l)) (λ l b. refl)
-      (λ l b. pending-same (s .image) y l b (above-range 747 748 (omega arith) changed))
+      (λ l b. pending-same (s .image) y l b (above-range pendingByte pendingEnd (omega arith) changed))
       (marking t v (s .working) sel (seenOf s .status) (seenOf s .pending) (W .sound) (after .stage) (after .status)
       (λ l b. stage-in (s .working) (stageAfter t v (s .working) sel) l b)
       (λ l b k. status-in (s .image) l (W .size) b c inProgress (omega arith) k)
@@ -75,7 +78,7 @@ marked-well two t base s sel W = record {
     y : Image
     y = withStatus c inProgress (s .image)
 
-    changed : SameOutside 714 718 (s .image) y
+    changed : SameOutside statusBytes statusEnd (s .image) y
     changed = status-outside c inProgress (s .image)
 
     after : Seen
@@ -88,22 +91,22 @@ marked-well two t base s sel W = record {
       pending = seenOf s .pending;
     }
 
-triggered-well : (two : ℕ) (t : Trigger) (base : ℕ) (s : State) (sel : ℕ) → Well two s → Well two (triggered t base s sel)
-unfolding triggered
+triggered-well : (two : ℕ) (t : Trigger) (base : ℕ) (s : State) (sel : ℕ) → Well two s → Well two (triggeredState t base s sel)
+unfolding triggeredState
 triggered-well two t base s sel W = pick-well two (isIgnored t (s .image)) _ _ (λ e. W) (λ e. marked-well two t base s sel W)
 
 -- ---- written bytes
 
-stored-well : (two i v : ℕ) (s : State) → Well two s → Well two (stored i v s)
-unfolding stored
+stored-well : (two i v : ℕ) (s : State) → Well two s → Well two (storedState i v s)
+unfolding storedState
 stored-well two i v s W =
     pick-well two (eqb i pageSelect) _ _ (λ e. quiet-well two (s .image) _ (s .working) (selected-quiet v (s .image)) W)
     (λ e. pick-well two (eqb i applyDPInit) _ _ (λ e. triggered-well two DpInit stagedSet0 s v W)
     (λ e. pick-well two (eqb i applyImmediate) _ _ (λ e. triggered-well two Immediate stagedSet0 s v W)
     (λ e. pick-well two (writable i) _ _ (λ e. quiet-well two (s .image) _ (s .working) (set-quiet (s .image) i v e) W) (λ e. W))))
 
-bytes-well : (two address : ℕ) (vs : List ℕ) (s : State) → Well two s → Well two (bytesWritten address vs s)
-unfolding bytesWritten byteWritten
+bytes-well : (two address : ℕ) (vs : List ℕ) (s : State) → Well two s → Well two (bytesWrittenState address vs s)
+unfolding bytesWrittenState byteWrittenState
 bytes-well two address [] s W = W
 bytes-well two address (v ∷ vs) s W = bytes-well two (suc address) vs _ (stored-well two _ v s W)
 
@@ -129,8 +132,8 @@ unfolding isUnused
 not-unused s l e = not-false _ e
 
 carried-well : (two room : ℕ) (s : State) (bytes : List ℕ) (call : Call) → Well two s → isDone (firstOf (eventRefusals room s call)) ≡ true
-    → Well two (carried early s bytes call .state)
-unfolding carried readAt eventRefusals isDone
+    → Well two (eventEffect early s bytes call .state)
+unfolding eventEffect readEffect eventRefusals isDone
 carried-well two room s bytes (Write address count) W e = bytes-well two address (take count bytes) s W
 carried-well two room s bytes (Read address count) W e = quiet-well two (s .image) _ (s .working) (cleared-quiet (s .image) _ count) W
 carried-well two room s bytes (Work l) W e = work-well two s l W (a-lane l (not-refused _ _ refl e .0))
@@ -147,7 +150,7 @@ carried-well two room s bytes (Sample l p) W e =
 -- ---- every event, refused or done
 
 pub step-well : (two room : ℕ) (s : State) (e : Event) → Well two s → Well two (step early room s e .state)
-unfolding step answered done refused
+unfolding step answeredStep doneStep refusedStep
 step-well two room s e W = split (isDone (firstOf (eventRefusals room s (e .call))))
     (λ d. rw (pick-true _ _ d) (quiet-well two _ _ _ (settled-quiet _) (carried-well two room s (e .bytes) (e .call) W d)))
     (λ d. rw (pick-false _ _ d) W)

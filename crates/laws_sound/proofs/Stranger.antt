@@ -7,9 +7,9 @@ use lib.Dec.{ltb}
 use borrow.Author.Tests.{ltb-true, ltb-false}
 use Rattle.bits.specs.Sets.{has}
 use Rattle.bits.proofs.Tests.{split, clash}
-use Rattle.model.specs.Lanes.{isInProgress, isPass, isPassing}
+use Rattle.model.specs.Records.{isInProgress, isPass, isPassing}
 use Rattle.model.specs.View.{of, applicationIn, appSel, pathId, isUsed, samePath, pathOf, fills}
-use Rattle.model.specs.Work.{written}
+use Rattle.model.specs.Work.{writtenSettings}
 use Rattle.model.specs.declared.lane.Verdict.{Verdict}
 use Rattle.model.specs.declared.lane.Verdict.the-variants.{Pass, Reject}
 use Rattle.model.specs.declared.lane.Progress.{Progress}
@@ -102,7 +102,7 @@ module _ (o : Seen) (S : Sound o) where
       let P : Passes o (p .group) n = S .passes m n p b e q in
       let i : has (p .group) m ≡ true = own m p b e in
       split (ltb m n)
-      (λ t. let c : of (o .active) m ≡ written (held o m) = P .copied m b i (ltb-true m n t) in
+      (λ t. let c : of (o .active) m ≡ writtenSettings (held o m) = P .copied m b i (ltb-true m n t) in
       let uh : isUsed (held o m) ≡ true = sym (written-used (held o m)) ∙ ap isUsed (sym c) ∙ u in
       rw (c, written-app (held o m) uh, written-id (held o m) uh) (P .purpose .whole m b i uh))
       (λ t. P .remain .whole m b (not-copied (p .group) n m i (ltb-false m n t)) u)

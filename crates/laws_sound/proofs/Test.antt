@@ -9,17 +9,16 @@ use lib.Dec.{leb, ltb}
 use lib.ListN.{getD}
 use borrow.Author.Tests.{ltb-true, ltb-false, leb-true, eqb-true, lt-ltb, le-leb, eq-eqb, not-true}
 use Rattle.bits.specs.Choice.{both, same}
-use Rattle.bits.specs.Sets.{has, nextIn}
+use Rattle.bits.specs.Sets.{has, nextIn, firstIn, someIn, everyIn}
 use Rattle.bits.proofs.Tests.{split, clash, both-l, both-r, both-i, either-cases, either-i-l, either-i-r, implies-use, implies-i}
 use Rattle.bits.proofs.Loops.{all-at, all-intro, any-find, any-none, none-any, tab-at}
 use Rattle.bits.proofs.Masks.{has-mask, first-in, next-le}
 use Rattle.model.specs.Map.{Image, activeSet, stagedSet0}
-use Rattle.model.specs.Lanes.{stageAt, isPassing, heldIn, noSettings}
+use Rattle.model.specs.Records.{stageAt, isPassing, heldIn, noSettings}
 use Rattle.model.specs.View.{View, viewOf, settingsOf, applicationsOf, of, applicationIn, appSel, pathId, isUsed, samePath, pathOf, fills, settingValues}
-use Rattle.model.specs.Groups.{firstIn, someIn, everyIn}
-use Rattle.model.specs.Triggers.{State}
+use Rattle.model.specs.State.{State}
 use Rattle.model.specs.Work.{isRelease}
-use Rattle.model.specs.Sound.{statusTells, sameTrigger, sameVerdict, agrees, settingsFit, verdictFits, stageFits, share, makePath, agreeOnState, inWholePath, isAtRest, outsidePassing, heldsOf, hasPurpose, rests, sameSettings, holdsCopied, notCopied, restIsWhole, passingFits, groupFits, laneSound, isSound}
+use Rattle.model.specs.Sound.{statusTells, sameTrigger, sameVerdict, agrees, settingsFit, verdictFits, stageFits, share, makePath, agreeOnState, inWholePath, isAtRest, outsidePassing, heldSettingsOf, hasPurpose, rests, sameSettings, holdsCopied, notCopied, restIsWhole, passingFits, groupFits, laneSound, isSound}
 use Rattle.model.specs.declared.lane.Settings.{Settings}
 use Rattle.model.specs.declared.lane.Trigger.{Trigger}
 use Rattle.model.specs.declared.lane.Trigger.the-variants.{DpInit, Immediate}
@@ -216,8 +215,8 @@ module _ (x : Image) (w : Working) (l : ℕ) (b : l < 8) where
     first-lane : (firstIn g < 8) × (has g (firstIn g) ≡ true)
     first-lane = first-in 8 g 0 l (omega arith) b i
 
-    held-at : (m : ℕ) → m < 8 → of (heldsOf w) m ≡ held o m
-    unfolding heldsOf
+    held-at : (m : ℕ) → m < 8 → of (heldSettingsOf w) m ≡ held o m
+    unfolding heldSettingsOf
     held-at m bm = tab-at 8 (λ k. heldIn (stageAt w k)) m noSettings bm
 
     released : isRelease w g ≡ true → (m : ℕ) → m < 8 → has g m ≡ true → isUsed (held o m) ≡ false
@@ -232,7 +231,7 @@ module _ (x : Image) (w : Working) (l : ℕ) (b : l < 8) where
     unfolding hasPurpose viewOf
     purpose-e e = elim (either-cases _ _ e) [
       | inl r ↦ one-none _ _ _ _ (released r)
-      | inr r ↦ one-ext _ (of (heldsOf w)) (held o) _ _ held-at (make-one _ _ _ _ _ r)
+      | inr r ↦ one-ext _ (of (heldSettingsOf w)) (held o) _ _ held-at (make-one _ _ _ _ _ r)
     ]
 
     remain-e : restIsWhole v g n ≡ true → OnePath (o .applications) (of (o .active)) (notCopied g n) g
@@ -346,13 +345,13 @@ module _ (s : State) (S : Sound (seenOf s)) (l : ℕ) (b : l < 8) where
     purpose-i : hasPurpose (viewOf stagedSet0 (s .image)) (s .working) g ≡ true
     unfolding hasPurpose viewOf
     purpose-i = split (isUsed (held (seenOf s) (firstIn g)))
-        (λ u. either-i-r _ _ (one-make _ (heldsOf (s .working)) (has g) (firstIn g) g
-        (one-ext _ (held (seenOf s)) (of (heldsOf (s .working))) _ _ (λ m bm. sym (same-held m bm)) (P .purpose))
+        (λ u. either-i-r _ _ (one-make _ (heldSettingsOf (s .working)) (has g) (firstIn g) g
+        (one-ext _ (held (seenOf s)) (of (heldSettingsOf (s .working))) _ _ (λ m bm. sym (same-held m bm)) (P .purpose))
         (first .0) (first .1) (rw (same-held (firstIn g) (first .0)) u)))
         (λ u. either-i-l _ _ (releases (s .image) (s .working) l b g n i
         (all-unused (s .image) (s .working) l b g n i (P .purpose) (firstIn g) (first .0) (first .1) u)))
       where
-        same-held : (m : ℕ) → m < 8 → of (heldsOf (s .working)) m ≡ held (seenOf s) m
+        same-held : (m : ℕ) → m < 8 → of (heldSettingsOf (s .working)) m ≡ held (seenOf s) m
         same-held = held-at (s .image) (s .working) l b g n i
 
     rests-i : rests (viewOf stagedSet0 (s .image)) (s .working) g ≡ true

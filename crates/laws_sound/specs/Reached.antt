@@ -7,7 +7,7 @@ use Prim.Native.Nat.{ℕ, _≤_}
 use lib.ListN.{length}
 use Rattle.model.specs.Map.{Image, imageLength}
 use Rattle.model.specs.Answers.{number}
-use Rattle.model.specs.Triggers.{State}
+use Rattle.model.specs.State.{State}
 use Rattle.model.specs.Work.{early}
 use Rattle.model.specs.Sound.{isSound}
 use Rattle.model.specs.Refusals.{firstOf, entryRefusals}
@@ -61,6 +61,7 @@ stepAt s c = stepOutcome (step early (length (c .buffer)) s (c .event)) (c .buff
 
 -- ---- calls and lists of events
 
+-- the events of calls
 abbrev pub eventsOf : List Called → List Event
 eventsOf cs = map (λ c. c .event) cs
 

@@ -9,11 +9,11 @@ use Rattle.bits.specs.Sets.{has}
 use Rattle.model.specs.Map.{activeSet, statusAt, pendingAt}
 use Rattle.model.specs.Statuses.{inProgress}
 use Rattle.model.specs.PathStates.{stateOf, resting}
-use Rattle.model.specs.Lanes.{stageAt, isInProgress, isPassing, heldIn}
+use Rattle.model.specs.Records.{stageAt, isInProgress, isPassing, heldIn}
 use Rattle.model.specs.View.{settingsOf, statesOf, applicationsOf, of, stateIn, applicationIn, appSel, pathId, isUsed, samePath, pathOf, fills}
-use Rattle.model.specs.Triggers.{State}
+use Rattle.model.specs.State.{State}
 use Rattle.model.specs.Verdicts.{deactivated}
-use Rattle.model.specs.Work.{written}
+use Rattle.model.specs.Work.{writtenSettings}
 use Rattle.model.specs.Sound.{notCopied}
 use Rattle.model.specs.declared.lane.Settings.{Settings}
 use Rattle.model.specs.declared.lane.Verdict.the-variants.{Pass, Reject}
@@ -21,7 +21,7 @@ use Rattle.model.specs.declared.lane.Progress.{Progress}
 use Rattle.model.specs.declared.lane.Stage.{Stage}
 use Rattle.model.specs.declared.lane.Stage.the-variants.{InProgress}
 use Rattle.model.specs.declared.application.Lookup.{Lookup}
-use Rattle.laws_frames.proofs.Back.{Fits}
+use Rattle.laws_frames.specs.Frames.{Fits}
 
 -- what soundness looks at: the lanes' stages, active settings, states, statuses and pending bits, and the Applications
 pub record Seen : Type 0 where
@@ -96,7 +96,7 @@ pub record Passes (o : Seen) (g n : ℕ) : Type 0 where
   pub agree : (m k : ℕ) → m < 8 → k < 8 → has g m ≡ true → has g k ≡ true → stateOn o m ≡ stateOn o k
   pub rests : (m : ℕ) → m < 8 → has g m ≡ true → resting (stateOf (stateOn o m)) ≡ true
   pub release : (m : ℕ) → m < 8 → has g m ≡ true → isUsed (held o m) ≡ false → stateOn o m ≡ deactivated
-  pub copied : (m : ℕ) → m < 8 → has g m ≡ true → m < n → of (o .active) m ≡ written (held o m)
+  pub copied : (m : ℕ) → m < 8 → has g m ≡ true → m < n → of (o .active) m ≡ writtenSettings (held o m)
   pub remain : OnePath (o .applications) (of (o .active)) (notCopied g n) g
 
 -- ---- these five, no more

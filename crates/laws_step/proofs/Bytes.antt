@@ -11,16 +11,17 @@ use borrow.Author.Tests.{eqb-true, ltb-false, leb-true, lt-ltb, le-ltb, le-leb, 
 use Rattle.bits.specs.Choice.{pick, either}
 use Rattle.bits.proofs.Tests.{split, clash, both-l, both-r, both-i, either-cases, either-i-l, either-i-r}
 use Rattle.model.specs.Map.{Image, bankSelect, pageSelect, applyDPInit, applyImmediate, stagedSet0, writable}
-use Rattle.model.specs.Lanes.{stageAt, isInProgress}
+use Rattle.model.specs.Records.{stageAt, isInProgress}
 use Rattle.model.specs.View.{View}
-use Rattle.model.specs.Triggers.{State, markedStage, triggered}
-use Rattle.model.specs.Pages.{pagePlace, selectedStart, placeOf, withPage, pageSelected}
-use Rattle.model.specs.Access.{withImage, stored, byteWritten, bytesWritten, halfEnd}
+use Rattle.model.specs.State.{State, withImage}
+use Rattle.model.specs.Triggers.{markedStage, triggeredState}
+use Rattle.model.specs.Pages.{pageStart, selectedStart, indexOf, withPage, selectedImage}
+use Rattle.model.specs.Access.{storedState, byteWrittenState, bytesWrittenState, halfEnd}
 use Rattle.model.specs.declared.lane.Trigger.{Trigger}
 use Rattle.model.specs.declared.lane.Trigger.the-variants.{DpInit, Immediate}
 use Rattle.model.specs.declared.lane.Working.{Working}
-use Rattle.model.specs.declared.page.PagePlace.{PagePlace}
-use Rattle.model.specs.declared.page.PagePlace.the-variants.{Unsupported, At}
+use Rattle.model.specs.declared.page.PageStart.{PageStart}
+use Rattle.model.specs.declared.page.PageStart.the-variants.{Unsupported, At}
 use Rattle.model.proofs.Starts.{start-past}
 use Rattle.laws_step.specs.Changes.{ChangesOnly, orIn, inBytes, statusSet}
 use Rattle.laws_step.specs.Told.{marks, newlyMarked, amid, writtenBytes, writeSet}
@@ -85,7 +86,7 @@ module _ (from to : ℕ) where
     unfolding inBytes writtenBytes
     select-byte x i v e = keeps-set _ x i v (λ b. either-i-r _ _ (both-i (here 127 lo hi) e))
 
-    page-by : (s : State) (p : PagePlace) (v : ℕ) → ChangesOnly (inBytes (writtenBytes from to)) (s .image) (withPage p v (s .image))
+    page-by : (s : State) (p : PageStart) (v : ℕ) → ChangesOnly (inBytes (writtenBytes from to)) (s .image) (withPage p v (s .image))
     unfolding either
     page-by s Unsupported v = keeps-then (select-byte (s .image) bankSelect 0 refl) (select-byte _ pageSelect 0 refl)
     page-by s (At start) v = select-byte (s .image) pageSelect v refl
@@ -94,7 +95,7 @@ module _ (from to : ℕ) where
   unfolding markedStage isInProgress
   new-in-progress t v selected l = refl
 
-  trigger-by : (t : Trigger) (s : State) (v : ℕ) → Written from to s (triggered t stagedSet0 s v)
+  trigger-by : (t : Trigger) (s : State) (v : ℕ) → Written from to s (triggeredState t stagedSet0 s v)
   unfolding writeSet statusSet newlyMarked
   trigger-by t s v =
       record {
@@ -102,14 +103,14 @@ module _ (from to : ℕ) where
         records = λ l h e. trigger-keeps-record t stagedSet0 s v l h (unless (λ m. clash (new l h m) e));
       }
     where
-      new : (l : ℕ) → l < 8 → marks t stagedSet0 s v l ≡ true → newlyMarked (s .working) (triggered t stagedSet0 s v .working) l ≡ true
+      new : (l : ℕ) → l < 8 → marks t stagedSet0 s v l ≡ true → newlyMarked (s .working) (triggeredState t stagedSet0 s v .working) l ≡ true
       new l h m = let r = trigger-marks t stagedSet0 s v l h m in both-i (rw (r .0)) (ap isInProgress (r .1) ∙ new-in-progress t _ v l)
 
-  byte-stored : (i v : ℕ) (s : State) → from ≤ i → i < to → Written from to s (stored i v s)
-  unfolding stored pageSelected inBytes writtenBytes pick
+  byte-stored : (i v : ℕ) (s : State) → from ≤ i → i < to → Written from to s (storedState i v s)
+  unfolding storedState selectedImage inBytes writtenBytes pick
   byte-stored i v s lo hi = split (eqb i pageSelect)
       (λ e. let q : i ≡ 127 = eqb-true i 127 e in
-      rw (e, pick) (unmarked s _ (page-by (omega arith) (omega arith) s (pagePlace (getD (s .image) bankSelect 0) v) v)))
+      rw (e, pick) (unmarked s _ (page-by (omega arith) (omega arith) s (pageStart (getD (s .image) bankSelect 0) v) v)))
       (λ e. split (eqb i applyDPInit) (λ f. rw (e, f, pick) (trigger-by DpInit s v))
       (λ f. split (eqb i applyImmediate) (λ g. rw (e, f, g, pick) (trigger-by Immediate s v))
       (λ g. split (writable i)
@@ -119,14 +120,14 @@ module _ (from to : ℕ) where
 -- ---- the bytes of a write, in address order
 
 -- lower addresses are places themselves
-pub lower-written : (from to : ℕ) (vs : List ℕ) (a : ℕ) (s : State) → from ≤ a → a + length vs ≤ to → a + length vs ≤ 128 → Written from to s (bytesWritten a vs s)
-unfolding bytesWritten byteWritten placeOf pick
+pub lower-written : (from to : ℕ) (vs : List ℕ) (a : ℕ) (s : State) → from ≤ a → a + length vs ≤ to → a + length vs ≤ 128 → Written from to s (bytesWrittenState a vs s)
+unfolding bytesWrittenState byteWrittenState indexOf pick
 lower-written from to [] a s lo hi e = unmarked from to s (s .image) (keeps-refl _ (s .image))
 lower-written from to (v ∷ vs) a s lo hi e =
     let b : ltb a 128 ≡ true = lt-ltb a 128 (omega arith) in
-    written-then from to s (byteWritten a v s) _
+    written-then from to s (byteWrittenState a v s) _
     (rw (b, pick) (byte-stored from to a v s lo (omega arith)))
-    (lower-written from to vs (suc a) (byteWritten a v s) (omega arith) (omega arith) (omega arith))
+    (lower-written from to vs (suc a) (byteWrittenState a v s) (omega arith) (omega arith) (omega arith))
 
 -- a write past lower memory leaves all of it, and with it the selected page
 lower-bytes : (from to i : ℕ) → i < 128 → 128 ≤ from → writtenBytes from to i ≡ true → ⊥
@@ -150,31 +151,31 @@ page-stays from to s z f k = rw (stays 126 (omega arith), stays 127 (omega arith
     stays i h = keeps-byte (k .bits) i (λ b. lower-stays from to (s .working) (z .working) i b h f)
 
 upper-written : (from to start : ℕ) (vs : List ℕ) (a : ℕ) (s : State) → selectedStart (s .image) ≡ start → 128 ≤ from → 128 ≤ a → from ≤ start + (a - 128)
-    → start + (a - 128) + length vs ≤ to → Written from to s (bytesWritten a vs s)
-unfolding bytesWritten byteWritten placeOf pick
+    → start + (a - 128) + length vs ≤ to → Written from to s (bytesWrittenState a vs s)
+unfolding bytesWrittenState byteWrittenState indexOf pick
 upper-written from to start [] a s g f h lo hi = unmarked from to s (s .image) (keeps-refl _ (s .image))
 upper-written from to start (v ∷ vs) a s g f h lo hi =
     let b : ltb a 128 ≡ false = le-ltb a 128 (omega arith) in
-    let k : Written from to s (byteWritten a v s) = rw (b, pick, g) (byte-stored from to (start + (a - 128)) v s lo (omega arith)) in
-    written-then from to s (byteWritten a v s) _ k
-    (upper-written from to start vs (suc a) (byteWritten a v s) (page-stays from to s _ f k ∙ g) f (omega arith) (omega arith) (omega arith))
+    let k : Written from to s (byteWrittenState a v s) = rw (b, pick, g) (byte-stored from to (start + (a - 128)) v s lo (omega arith)) in
+    written-then from to s (byteWrittenState a v s) _ k
+    (upper-written from to start vs (suc a) (byteWrittenState a v s) (page-stays from to s _ f k ∙ g) f (omega arith) (omega arith) (omega arith))
 
 -- any part of an access that stays in its half
-pub part-written : (from to : ℕ) (vs : List ℕ) (a : ℕ) (s : State) → from ≤ placeOf (s .image) a → placeOf (s .image) a + length vs ≤ to
-    → a + length vs ≤ halfEnd a → (128 ≤ a → 128 ≤ from) → Written from to s (bytesWritten a vs s)
-unfolding placeOf halfEnd pick
+pub part-written : (from to : ℕ) (vs : List ℕ) (a : ℕ) (s : State) → from ≤ indexOf (s .image) a → indexOf (s .image) a + length vs ≤ to
+    → a + length vs ≤ halfEnd a → (128 ≤ a → 128 ≤ from) → Written from to s (bytesWrittenState a vs s)
+unfolding indexOf halfEnd pick
 part-written from to vs a s lo hi e f = split (ltb a 128)
     (λ t. lower-written from to vs a s (rw (t, pick) at lo) (rw (t, pick) at hi) (rw (t, pick) at e))
     (λ t. let h : 128 ≤ a = ltb-false a 128 t in upper-written from to (selectedStart (s .image)) vs a s refl (f h) h (rw (t, pick) at lo) (rw (t, pick) at hi))
 
 -- the place of an upper address lies past lower memory
-pub place-past : (x : Image) (a : ℕ) → 128 ≤ a → 128 ≤ placeOf x a
-unfolding placeOf pick
+pub place-past : (x : Image) (a : ℕ) → 128 ≤ a → 128 ≤ indexOf x a
+unfolding indexOf pick
 place-past x a h = rw (le-ltb a 128 h, pick) (omega (arith, start-past x))
 
 -- after a part of j bytes the next byte's place is the following one
-pub place-moves : (a j to : ℕ) (s z : State) → a + j < halfEnd a → Written (placeOf (s .image) a) to s z → placeOf (z .image) (a + j) ≡ placeOf (s .image) a + j
-unfolding halfEnd placeOf pick
+pub place-moves : (a j to : ℕ) (s z : State) → a + j < halfEnd a → Written (indexOf (s .image) a) to s z → indexOf (z .image) (a + j) ≡ indexOf (s .image) a + j
+unfolding halfEnd indexOf pick
 place-moves a j to s z e k = split (ltb a 128)
     (λ t. let b : a + j < 128 = (rw (t, pick) at e) in rw (t, lt-ltb (a + j) 128 b, pick))
     (λ t. let b : 128 ≤ a = ltb-false a 128 t in

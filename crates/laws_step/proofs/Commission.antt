@@ -9,15 +9,15 @@ use borrow.Author.Tests.{eqb-true, ltb-false, le-ltb}
 use Rattle.bits.specs.Choice.{pick}
 use Rattle.bits.specs.Place.{get}
 use Rattle.bits.proofs.Tests.{split, clash}
-use Rattle.model.specs.Map.{laneCount, stateAt}
+use Rattle.bits.specs.Sets.{laneCount, firstIn}
+use Rattle.model.specs.Map.{stateAt}
 use Rattle.model.specs.Answers.{isDone}
 use Rattle.model.specs.PathStates.{codeOf, stateOf, commissioned}
-use Rattle.model.specs.Lanes.{stageAt}
-use Rattle.model.specs.Groups.{firstIn}
-use Rattle.model.specs.Triggers.{State}
-use Rattle.model.specs.Work.{early, isRelease, commissionMask, closedPass, workedBy, workedOn, workStep}
+use Rattle.model.specs.Records.{stageAt}
+use Rattle.model.specs.State.{State}
+use Rattle.model.specs.Work.{early, isRelease, commissionMask, closingEffect, workEffectBy, workEffectOn, workEffect}
 use Rattle.model.specs.Refusals.{firstOf, eventRefusals}
-use Rattle.model.specs.Step.{step, carried, done, refused, answered, readAt}
+use Rattle.model.specs.Step.{step, eventEffect, doneStep, refusedStep, answeredStep, readEffect}
 use Rattle.model.specs.declared.event.Call.{Call}
 use Rattle.model.specs.declared.event.Call.the-variants.{Write, Read, Work, Hardware, Condition, Sample}
 use Rattle.model.specs.declared.event.Event.{Event}
@@ -62,9 +62,9 @@ module _ (s : State) where
       (λ e. absurd (n (rw (e, pick))))
 
   module _ (l : ℕ) (p : Progress) (i : stageAt (s .working) l ≡ InProgress p) where
-    verdict-told : (v : Verdict) → p .verdict ≡ v → workedBy v early s (p .group) (p .trigger) .mask ≢ 0
-        → Commissions s l p × (workedBy v early s (p .group) (p .trigger) .mask ≡ p .group)
-    unfolding workedBy closedPass pick
+    verdict-told : (v : Verdict) → p .verdict ≡ v → workEffectBy v early s (p .group) (p .trigger) .mask ≢ 0
+        → Commissions s l p × (workEffectBy v early s (p .group) (p .trigger) .mask ≡ p .group)
+    unfolding workEffectBy closingEffect pick
     verdict-told (Reject code) e n = absurd (n refl)
     verdict-told (Pass k) e n = split (ltb k laneCount)
         (λ b. absurd (n (rw (b, pick))))
@@ -81,15 +81,15 @@ module _ (s : State) where
           rw (b, pick) (t .3),
         ))
 
-  stage-told : (l : ℕ) (g : Stage) → stageAt (s .working) l ≡ g → workedOn g early s .mask ≢ 0
-      → (p : Progress) × Commissions s l p × (workedOn g early s .mask ≡ p .group)
-  unfolding workedOn
+  stage-told : (l : ℕ) (g : Stage) → stageAt (s .working) l ≡ g → workEffectOn g early s .mask ≢ 0
+      → (p : Progress) × Commissions s l p × (workEffectOn g early s .mask ≡ p .group)
+  unfolding workEffectOn
   stage-told l Idle i n = absurd (n refl)
   stage-told l (InProgress p) i n = let r = verdict-told l p i (p .verdict) refl n in (p, r .0, r .1)
 
-  call-told : (bytes : List ℕ) (c : Call) → carried early s bytes c .mask ≢ 0
-      → (l : ℕ) × (p : Progress) × (c ≡ Work l) × Commissions s l p × (carried early s bytes c .mask ≡ p .group)
-  unfolding carried readAt workStep
+  call-told : (bytes : List ℕ) (c : Call) → eventEffect early s bytes c .mask ≢ 0
+      → (l : ℕ) × (p : Progress) × (c ≡ Work l) × Commissions s l p × (eventEffect early s bytes c .mask ≡ p .group)
+  unfolding eventEffect readEffect workEffect
   call-told bytes (Write address count) n = absurd (n refl)
   call-told bytes (Read address count) n = absurd (n refl)
   call-told bytes (Work l) n = let r = stage-told l (stageAt (s .working) l) refl n in (l, r .0, refl, r .1, r .2)
@@ -100,7 +100,7 @@ module _ (s : State) where
 -- a step whose mask is not 0 is a work step that closes such a group, and the mask is the group
 pub commission-only : (room : ℕ) (s : State) (e : Event) → step early room s e .mask ≢ 0
     → (l : ℕ) × (p : Progress) × (e .call ≡ Work l) × Commissions s l p × (step early room s e .mask ≡ p .group)
-unfolding step answered done refused pick
+unfolding step answeredStep doneStep refusedStep pick
 commission-only room s e n = split (isDone (firstOf (eventRefusals room s (e .call))))
     (λ i. rw (i, pick) (call-told s (e .bytes) (e .call) (rw (i, pick) at n)))
     (λ i. absurd (n (rw (i, pick))))
@@ -108,12 +108,12 @@ commission-only room s e n = split (isDone (firstOf (eventRefusals room s (e .ca
 -- and every such step reports it
 pub commission-always : (room : ℕ) (s : State) (bytes : List ℕ) (l : ℕ) (p : Progress) → l < 8 → Commissions s l p
     → stepOn room s (Work l) bytes .mask ≡ p .group
-unfolding done workedBy closedPass commissionMask pick
+unfolding doneStep workEffectBy closingEffect commissionMask pick
 commission-always room s bytes l p h c =
     rw (
       work-done room s bytes l p h (c .inProgress),
       c .passes,
-      workedBy,
+      workEffectBy,
       le-ltb (c .next) laneCount (c .allCopied),
       pick,
       c .noRelease,

@@ -13,10 +13,10 @@ use Rattle.bits.specs.Sets.{has}
 use Rattle.bits.proofs.Tests.{split, both-l, both-r, either-cases}
 use Rattle.bits.proofs.Loops.{all-at}
 use Rattle.model.specs.Map.{settingWidths}
-use Rattle.model.specs.Lanes.{noSettings, stageAt, heldIn}
+use Rattle.model.specs.Records.{noSettings, stageAt, heldIn}
 use Rattle.model.specs.View.{isUsed, explicit, settingValues}
-use Rattle.model.specs.Triggers.{State}
-use Rattle.model.specs.Work.{byModule, written}
+use Rattle.model.specs.State.{State}
+use Rattle.model.specs.Work.{byModule, writtenSettings}
 use Rattle.model.specs.Sound.{settingsFit, verdictFits, stageFits, laneSound, isSound}
 use Rattle.model.specs.declared.lane.Settings.{Settings}
 use Rattle.model.specs.declared.lane.Verdict.the-variants.{Pass, Reject}
@@ -57,8 +57,8 @@ unfolding stageFits heldIn
 held-by w l Idle f = nothing-fits
 held-by w l (InProgress p) f = both-l _ _ (both-r _ _ f)
 
-written-by : (h : Settings) → settingsFit h ≡ true → settingsFit (written h) ≡ true
-unfolding settingsFit written byModule settingValues allBelow both pick
+written-by : (h : Settings) → settingsFit h ≡ true → settingsFit (writtenSettings h) ≡ true
+unfolding settingsFit writtenSettings byModule settingValues allBelow both pick
 written-by h f =
     let c : ltb (h .config) (2 ^ 8) ≡ true = all-at 8 (λ k. ltb (getD (settingValues h) k 0) (2 ^ getD settingWidths k 0)) f 0 (omega arith) in
     split (isUsed h)
@@ -66,6 +66,6 @@ written-by h f =
     (λ u. rw (u, pick))
 
 pub written-fits : (s : State) (l k : ℕ) → isSound s ≡ true → l < 8 → k < 8
-    → getD (settingValues (written (heldIn (stageAt (s .working) l)))) k 0 < 2 ^ getD settingWidths k 0
+    → getD (settingValues (writtenSettings (heldIn (stageAt (s .working) l)))) k 0 < 2 ^ getD settingWidths k 0
 unfolding settingsFit
 written-fits s l k o h b = ltb-true _ _ (all-at 8 _ (written-by _ (held-by (s .working) l _ (stage-fits s l o h))) k b)

@@ -12,10 +12,10 @@ use lib.Seq.{getD-set-same}
 use borrow.Author.Tests.{eqb-true, ltb-true, ltb-false, leb-true, lt-ltb, le-ltb}
 use Rattle.bits.specs.Choice.{pick, both, either}
 use Rattle.bits.proofs.Tests.{split, clash, both-l, both-r, either-cases}
-use Rattle.model.specs.Map.{pageSelect, applyDPInit, applyImmediate, inRanges, writable}
-use Rattle.model.specs.Triggers.{State}
-use Rattle.model.specs.Pages.{placeOf}
-use Rattle.model.specs.Access.{withImage, stored, byteWritten, bytesWritten, halfEnd}
+use Rattle.model.specs.Map.{pageSelect, applyDPInit, applyImmediate, inRanges, writable, imageLength}
+use Rattle.model.specs.State.{State, withImage}
+use Rattle.model.specs.Pages.{indexOf}
+use Rattle.model.specs.Access.{storedState, byteWrittenState, bytesWrittenState, halfEnd}
 use Rattle.model.specs.declared.lane.Working.{Working}
 use Rattle.laws_step.specs.Changes.{orIn, inBytes, statusSet}
 use Rattle.laws_step.specs.Told.{amid, writtenBytes, writeSet}
@@ -24,14 +24,14 @@ use Rattle.laws_step.proofs.Places.{writable-in}
 use Rattle.laws_step.proofs.Bytes.{Written, part-written, place-past, place-moves}
 
 -- bytes written in two parts, one after the other
-pub bytes-append : (a : ℕ) (us vs : List ℕ) (s : State) → bytesWritten a (us ++ vs) s ≡ bytesWritten (a + length us) vs (bytesWritten a us s)
-unfolding bytesWritten
+pub bytes-append : (a : ℕ) (us vs : List ℕ) (s : State) → bytesWrittenState a (us ++ vs) s ≡ bytesWrittenState (a + length us) vs (bytesWrittenState a us s)
+unfolding bytesWrittenState
 bytes-append a [] vs s = rw add-zero
-bytes-append a (u ∷ us) vs s = let e : a + suc (length us) ≡ suc a + length us = omega arith in rw e (bytes-append (suc a) us vs (byteWritten a u s))
+bytes-append a (u ∷ us) vs s = let e : a + suc (length us) ≡ suc a + length us = omega arith in rw e (bytes-append (suc a) us vs (byteWrittenState a u s))
 
 -- a writable byte is neither 127 nor a trigger, and keeps what is written to it
-stored-writable : (i v : ℕ) (s : State) → writable i ≡ true → stored i v s ≡ withImage s (set (s .image) i v)
-unfolding stored writable inRanges both either pick
+stored-writable : (i v : ℕ) (s : State) → writable i ≡ true → storedState i v s ≡ withImage s (set (s .image) i v)
+unfolding storedState writable inRanges both either pick
 stored-writable i v s w = split (eqb i pageSelect)
     (λ e. absurd (clash w (ap writable (eqb-true i 127 e))))
     (λ e. split (eqb i applyDPInit) (λ f. absurd (clash w (ap writable (eqb-true i applyDPInit f))))
@@ -62,9 +62,9 @@ earlier-stays i to v w b e q = neither
     (unless (λ t. let r = lanes-bytes _ _ 4 i b refl t in omega (arith, writable-in i e)))
 
 -- the bytes after it, if there are any, begin at the next place
-after-it : (a i : ℕ) (rest : List ℕ) (z : State) → (0 < length rest → (placeOf (z .image) a ≡ suc i) × (a + length rest ≤ halfEnd a) × (128 ≤ a → 128 ≤ suc i))
-    → writable i ≡ true → (i ≡ 126 → length rest ≡ 0) → getD (bytesWritten a rest z .image) i 0 ≡ getD (z .image) i 0
-unfolding bytesWritten
+after-it : (a i : ℕ) (rest : List ℕ) (z : State) → (0 < length rest → (indexOf (z .image) a ≡ suc i) × (a + length rest ≤ halfEnd a) × (128 ≤ a → 128 ≤ suc i))
+    → writable i ≡ true → (i ≡ 126 → length rest ≡ 0) → getD (bytesWrittenState a rest z .image) i 0 ≡ getD (z .image) i 0
+unfolding bytesWrittenState
 after-it a i [] z p w q = refl
 after-it a i (r ∷ rest) z p w q =
     let g = p (omega arith) in
@@ -74,44 +74,44 @@ after-it a i (r ∷ rest) z p w q =
 module _ (a k : ℕ) (before rest : List ℕ) (v : ℕ) (s : State) (size : length before ≡ k) (e : a + k + suc (length rest) ≤ halfEnd a) where
   -- the state when its turn comes, and the state after it
   until : State
-  until = bytesWritten a before s
+  until = bytesWrittenState a before s
 
   with-it : State
-  with-it = byteWritten (a + k) v until
+  with-it = byteWrittenState (a + k) v until
 
-  so-far : Written (placeOf (s .image) a) (placeOf (s .image) a + k) s until
+  so-far : Written (indexOf (s .image) a) (indexOf (s .image) a + k) s until
   unfolding until
   so-far = part-written _ _ before a s (omega arith) (omega arith) (omega arith) (place-past (s .image) a)
 
-  and-it : Written (placeOf (s .image) a) (placeOf (s .image) a + suc k) s with-it
-  unfolding with-it until bytesWritten
+  and-it : Written (indexOf (s .image) a) (indexOf (s .image) a + suc k) s with-it
+  unfolding with-it until bytesWrittenState
   and-it = let r : length (before ++ (v ∷ [])) ≡ suc k = simp length-append (omega arith) in
-      subst (Written (placeOf (s .image) a) (placeOf (s .image) a + suc k) s)
-      (bytes-append a before (v ∷ []) s ∙ ap (λ n. byteWritten (a + n) v until) size)
+      subst (Written (indexOf (s .image) a) (indexOf (s .image) a + suc k) s)
+      (bytes-append a before (v ∷ []) s ∙ ap (λ n. byteWrittenState (a + n) v until) size)
       (part-written _ _ (before ++ (v ∷ [])) a s (omega arith) (omega arith) (omega arith) (place-past (s .image) a))
 
   next-place : 0 < length rest
-      → (placeOf (with-it .image) (suc (a + k)) ≡ suc (placeOf (s .image) a + k)) × (suc (a + k) + length rest ≤ halfEnd (suc (a + k)))
-      × (128 ≤ suc (a + k) → 128 ≤ suc (placeOf (s .image) a + k))
+      → (indexOf (with-it .image) (suc (a + k)) ≡ suc (indexOf (s .image) a + k)) × (suc (a + k) + length rest ≤ halfEnd (suc (a + k)))
+      × (128 ≤ suc (a + k) → 128 ≤ suc (indexOf (s .image) a + k))
   unfolding halfEnd pick
   next-place l = (
-    (rw (add-suc a k, add-suc (placeOf (s .image) a) k) at (place-moves a (suc k) _ s with-it (omega arith) and-it)),
+    (rw (add-suc a k, add-suc (indexOf (s .image) a) k) at (place-moves a (suc k) _ s with-it (omega arith) and-it)),
     rw (half-stays a (suc (a + k)) (omega arith) (omega arith)) (omega arith),
     λ b. split (ltb a 128)
         (λ t. absurd (omega (arith, (rw (t, pick) at e))))
         (λ t. omega (arith, place-past (s .image) a (ltb-false a 128 t))),
   )
 
-  stored-it : writable (placeOf (s .image) a + k) ≡ true → with-it ≡ withImage until (set (until .image) (placeOf (s .image) a + k) v)
-  unfolding with-it byteWritten
-  stored-it w = rw (place-moves a k _ s until (omega arith) so-far) (stored-writable (placeOf (s .image) a + k) v until w)
+  stored-it : writable (indexOf (s .image) a + k) ≡ true → with-it ≡ withImage until (set (until .image) (indexOf (s .image) a + k) v)
+  unfolding with-it byteWrittenState
+  stored-it w = rw (place-moves a k _ s until (omega arith) so-far) (stored-writable (indexOf (s .image) a + k) v until w)
 
-  pub in-the-middle : length (s .image) ≡ 768 → writable (placeOf (s .image) a + k) ≡ true → (placeOf (s .image) a + k ≡ 126 → length rest ≡ 0)
-      → getD (bytesWritten a (before ++ (v ∷ rest)) s .image) (placeOf (s .image) a + k) 0 ≡ v
-  unfolding bytesWritten until with-it
+  pub in-the-middle : length (s .image) ≡ imageLength → writable (indexOf (s .image) a + k) ≡ true → (indexOf (s .image) a + k ≡ 126 → length rest ≡ 0)
+      → getD (bytesWrittenState a (before ++ (v ∷ rest)) s .image) (indexOf (s .image) a + k) 0 ≡ v
+  unfolding bytesWrittenState until with-it
   in-the-middle full w q =
-      ap (λ z. getD (z .image) (placeOf (s .image) a + k) 0)
-      (bytes-append a before (v ∷ rest) s ∙ ap (λ n. bytesWritten (suc (a + n)) rest (byteWritten (a + n) v (bytesWritten a before s))) size)
-      ∙ after-it (suc (a + k)) (placeOf (s .image) a + k) rest with-it next-place w q
-      ∙ ap (λ z. getD (z .image) (placeOf (s .image) a + k) 0) (stored-it w)
-      ∙ getD-set-same (until .image) (placeOf (s .image) a + k) v 0 (omega (arith, so-far .bits .size, writable-in (placeOf (s .image) a + k) w))
+      ap (λ z. getD (z .image) (indexOf (s .image) a + k) 0)
+      (bytes-append a before (v ∷ rest) s ∙ ap (λ n. bytesWrittenState (suc (a + n)) rest (byteWrittenState (a + n) v (bytesWrittenState a before s))) size)
+      ∙ after-it (suc (a + k)) (indexOf (s .image) a + k) rest with-it next-place w q
+      ∙ ap (λ z. getD (z .image) (indexOf (s .image) a + k) 0) (stored-it w)
+      ∙ getD-set-same (until .image) (indexOf (s .image) a + k) v 0 (omega (arith, so-far .bits .size, writable-in (indexOf (s .image) a + k) w))

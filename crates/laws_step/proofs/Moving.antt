@@ -2,21 +2,21 @@
 use mathlib.Core.Path.{_≡_, refl, sym, _∙_}
 use mathlib.Core.Bool.{Bool, true, false, not}
 use mathlib.Core.List.{List}
-use Prim.Native.Nat.{ℕ, _≤_, _<_}
+use Prim.Native.Nat.{ℕ, _+_, _≤_, _<_}
 use native.Mathlib.Omega.{arith}
 use lib.ListN.{length}
 use Rattle.bits.specs.Choice.{pick, onlyIf, both}
 use Rattle.bits.specs.Place.{get}
 use Rattle.bits.specs.Sets.{has}
 use Rattle.bits.proofs.Tests.{split, only-true, only-false, pick-true, pick-false}
-use Rattle.model.specs.Map.{Image, activeSet, stateAt, pendingAt, flagAt, stateChanged, page11, on}
+use Rattle.model.specs.Map.{Image, activeSet, stateAt, pendingAt, flagAt, stateChangedFlag, page11, on, imageLength, flagBytes, setLength, stateBytes}
 use Rattle.model.specs.PathStates.{codeOf, stateOf, resting}
 use Rattle.model.specs.View.{settingsOf, pathOf}
-use Rattle.model.specs.Triggers.{State}
-use Rattle.model.specs.Work.{withPending}
-use Rattle.model.specs.Hardware.{signalsOf, nextState, isState, withState, withFlags, initialized, entered, moved, movedPath, hardwareMoved}
-use Rattle.model.specs.Flags.{settled}
-use Rattle.model.specs.Step.{event, carried, done}
+use Rattle.model.specs.State.{State}
+use Rattle.model.specs.Registers.{withPending, withPathState, withFlags}
+use Rattle.model.specs.Hardware.{signalsOf, nextState, isState, isInitialized, enteredImage, movedImage, movedPathImage, hardwareImage}
+use Rattle.model.specs.Flags.{settledImage}
+use Rattle.model.specs.Step.{event, eventEffect, doneStep}
 use Rattle.model.specs.declared.answer.Answer.the-variants.{Done}
 use Rattle.model.specs.declared.event.Call.the-variants.{Hardware}
 use Rattle.model.specs.declared.path.PathState.{PathState}
@@ -32,8 +32,8 @@ pub flag-changes : (address g : ℕ) (x : Image) → ChangesOnly (flagSet addres
 unfolding withFlags flagSet
 flag-changes address g x = keeps-lanes (has g) (on page11 address) 1 (λ l. 1) x
 
-state-changes : (g : ℕ) (to : PathState) (x : Image) → ChangesOnly (stateSet (has g)) x (withState g to x)
-unfolding withState stateSet
+state-changes : (g : ℕ) (to : PathState) (x : Image) → ChangesOnly (stateSet (has g)) x (withPathState g to x)
+unfolding withPathState stateSet
 state-changes g to x = keeps-lanes (has g) (on page11 128) 4 (λ l. codeOf to) x
 
 pub flags-written : (address g : ℕ) (x : Image) (m : ℕ) → on page11 address < length x → m < 8 → has g m ≡ true
@@ -53,82 +53,82 @@ code-small TxTurnOff = omega arith
 code-small Initialized = omega arith
 
 -- the three kinds of registers lie in bytes of their own
-states-only : (c : ℕ → Bool) (i b : ℕ) → 644 ≤ i → stateSet c i b ≡ false
+states-only : (c : ℕ → Bool) (i b : ℕ) → stateBytes + 4 ≤ i → stateSet c i b ≡ false
 unfolding stateSet
 states-only c i b h = unless (λ t. let r = lanes-bytes c (on page11 128) 4 i b refl t in omega arith)
 
-flags-only : (c : ℕ → Bool) (i b : ℕ) → (i ≡ 646 → ⊥) → flagSet stateChanged c i b ≡ false
+flags-only : (c : ℕ → Bool) (i b : ℕ) → (i ≡ flagBytes → ⊥) → flagSet stateChangedFlag c i b ≡ false
 unfolding flagSet
 flags-only c i b n = unless (λ t. let r = lanes-bytes c (on page11 134) 1 i b refl t in n (omega arith))
 
-pending-only : (c : ℕ → Bool) (i b : ℕ) → i < 747 → pendingSet c i b ≡ false
+pending-only : (c : ℕ → Bool) (i b : ℕ) → i < activeSet + setLength → pendingSet c i b ≡ false
 unfolding pendingSet
 pending-only c i b h = unless (λ t. let r = lanes-bytes c (on page11 235) 1 i b refl t in omega arith)
 
 module _ (g : ℕ) (from to : PathState) (x : Image) where
   -- one after the other: the states, what is pending, the flags
   inState : Image
-  inState = withState g to x
+  inState = withPathState g to x
 
   cleared : Image
-  cleared = onlyIf (initialized from to) (withPending (has g) 0) inState
+  cleared = onlyIf (isInitialized from to) (withPending (has g) 0) inState
 
   clears : ChangesOnly (pendingSet (has g)) inState cleared
   unfolding cleared
-  clears = keeps-only _ (initialized from to) _ inState (pending-changes (has g) 0 inState)
+  clears = keeps-only _ (isInitialized from to) _ inState (pending-changes (has g) 0 inState)
 
-  flags : ChangesOnly (flagSet stateChanged (has g)) cleared (entered g from to x)
-  unfolding cleared inState entered
-  flags = keeps-only _ (resting to) _ cleared (flag-changes stateChanged g cleared)
+  flags : ChangesOnly (flagSet stateChangedFlag (has g)) cleared (enteredImage g from to x)
+  unfolding cleared inState enteredImage
+  flags = keeps-only _ (resting to) _ cleared (flag-changes stateChangedFlag g cleared)
 
-  enter-changes : ChangesOnly (pathSet g) x (entered g from to x)
+  enter-changes : ChangesOnly (pathSet g) x (enteredImage g from to x)
   unfolding pathSet inState
   enter-changes = keeps-then (keeps-left _ (state-changes g to x)) (keeps-then (keeps-right _ (keeps-right _ clears)) (keeps-right _ (keeps-left _ flags)))
 
-  move-changes : ChangesOnly (pathSet g) x (moved g from to x)
-  unfolding moved
+  move-changes : ChangesOnly (pathSet g) x (movedImage g from to x)
+  unfolding movedImage
   move-changes = keeps-only _ (not (isState from to)) _ x enter-changes
 
-  module _ (size : length x ≡ 768) (m : ℕ) (h : m < 8) (e : has g m ≡ true) where
-    state-entered : get (entered g from to x) (stateAt m) ≡ codeOf to
-    unfolding inState withState
+  module _ (size : length x ≡ imageLength) (m : ℕ) (h : m < 8) (e : has g m ≡ true) where
+    state-entered : get (enteredImage g from to x) (stateAt m) ≡ codeOf to
+    unfolding inState withPathState
     state-entered =
         keeps-lane flags (on page11 128) 4 m h refl (λ i b p q. flags-only _ i b (omega arith))
         ∙ keeps-lane clears (on page11 128) 4 m h refl (λ i b p q. pending-only _ i b (omega arith))
         ∙ lanes-written (has g) (on page11 128) 4 (codeOf to) x m (omega arith) refl (code-small to) h e
 
-    size-cleared : length cleared ≡ 768
+    size-cleared : length cleared ≡ imageLength
     unfolding inState
     size-cleared = clears .size ∙ state-changes g to x .size ∙ size
 
-    flag-entered : get (entered g from to x) (flagAt stateChanged m) ≡ pick (resting to) 1 (get x (flagAt stateChanged m))
-    unfolding entered cleared inState
+    flag-entered : get (enteredImage g from to x) (flagAt stateChangedFlag m) ≡ pick (resting to) 1 (get x (flagAt stateChangedFlag m))
+    unfolding enteredImage cleared inState
     flag-entered = split (resting to)
-        (λ t. rw (only-true (withFlags stateChanged g) cleared t)
-        (flags-written stateChanged g cleared m (omega (arith, size-cleared)) h e) ∙ sym (pick-true _ _ t))
-        (λ t. rw (only-false (withFlags stateChanged g) cleared t)
+        (λ t. rw (only-true (withFlags stateChangedFlag g) cleared t)
+        (flags-written stateChangedFlag g cleared m (omega (arith, size-cleared)) h e) ∙ sym (pick-true _ _ t))
+        (λ t. rw (only-false (withFlags stateChangedFlag g) cleared t)
         (keeps-lane clears (on page11 134) 1 m h refl (λ i b p q. pending-only _ i b (omega arith))
         ∙ keeps-lane (state-changes g to x) (on page11 134) 1 m h refl (λ i b p q. states-only _ i b (omega arith))) ∙ sym (pick-false _ _ t))
 
-    pending-entered : get (entered g from to x) (pendingAt m) ≡ pick (initialized from to) 0 (get x (pendingAt m))
+    pending-entered : get (enteredImage g from to x) (pendingAt m) ≡ pick (isInitialized from to) 0 (get x (pendingAt m))
     unfolding cleared inState
     pending-entered =
         keeps-lane flags (on page11 235) 1 m h refl (λ i b p q. flags-only _ i b (omega arith))
-        ∙ split (initialized from to)
+        ∙ split (isInitialized from to)
         (λ t. rw (only-true (withPending (has g) 0) inState t)
         (pending-written (has g) 0 inState m (state-changes g to x .size ∙ size) (omega arith) h e) ∙ sym (pick-true _ _ t))
         (λ t. rw (only-false (withPending (has g) 0) inState t)
         (keeps-lane (state-changes g to x) (on page11 235) 1 m h refl (λ i b p q. states-only _ i b (omega arith))) ∙ sym (pick-false _ _ t))
 
-  stays-there : isState from to ≡ true → moved g from to x ≡ x
-  unfolding moved onlyIf
+  stays-there : isState from to ≡ true → movedImage g from to x ≡ x
+  unfolding movedImage onlyIf
   stays-there e = rw (e, onlyIf)
 
-  goes-there : isState from to ≡ false → moved g from to x ≡ entered g from to x
-  unfolding moved onlyIf
+  goes-there : isState from to ≡ false → movedImage g from to x ≡ enteredImage g from to x
+  unfolding movedImage onlyIf
   goes-there e = rw (e, onlyIf)
 
-  path-moved : length x ≡ 768 → PathMoved g from to x (settled (moved g from to x))
+  path-moved : length x ≡ imageLength → PathMoved g from to x (settledImage (movedImage g from to x))
   unfolding pick both
   path-moved size = record {
     states = λ m h e. settled-lane _ (on page11 128) 4 m (omega arith) ∙ split (isState from to)
@@ -147,15 +147,15 @@ module _ (g : ℕ) (from to : PathState) (x : Image) where
 module _ (room : ℕ) (s : State) (bytes : List ℕ) (l : ℕ) (d : stepOn room s (Hardware l) bytes .answer ≡ Done) where
   pub hardware-changes : ChangesOnly (orIn interruptSet (pathSet (pathOf (settingsOf activeSet (s .image)) l)))
       (s .image) (stepOn room s (Hardware l) bytes .state .image)
-  unfolding carried hardwareMoved movedPath
+  unfolding eventEffect hardwareImage movedPathImage
   hardware-changes = step-changes room s (event (Hardware l) bytes) _ d (move-changes _ _ _ (s .image))
 
   pub hardware-keeps-records : stepOn room s (Hardware l) bytes .state .working ≡ s .working
-  unfolding done carried
+  unfolding doneStep eventEffect
   hardware-keeps-records = rw (done-step room s (event (Hardware l) bytes) d)
 
   -- the path of lane l goes from the state that lane l shows to the one that follows by the path's signals
-  pub hardware-moves : length (s .image) ≡ 768 → let g = pathOf (settingsOf activeSet (s .image)) l in let from = stateOf (get (s .image) (stateAt l)) in
+  pub hardware-moves : length (s .image) ≡ imageLength → let g = pathOf (settingsOf activeSet (s .image)) l in let from = stateOf (get (s .image) (stateAt l)) in
       PathMoved g from (nextState from (signalsOf (s .image) g)) (s .image) (stepOn room s (Hardware l) bytes .state .image)
-  unfolding done carried hardwareMoved movedPath
+  unfolding doneStep eventEffect hardwareImage movedPathImage
   hardware-moves size = rw (done-step room s (event (Hardware l) bytes) d) (path-moved _ _ _ (s .image) size)

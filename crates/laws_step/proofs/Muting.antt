@@ -8,15 +8,14 @@ use lib.ListN.{length}
 use borrow.Author.Tests.{eqb-true, eq-eqb}
 use Rattle.bits.specs.Choice.{pick, either}
 use Rattle.bits.specs.Place.{get}
-use Rattle.bits.specs.Sets.{has}
+use Rattle.bits.specs.Sets.{has, someIn}
 use Rattle.bits.specs.declared.Place.{Place}
 use Rattle.bits.proofs.Tests.{split, both-i, either-i-l, either-i-r, pick-true, pick-false}
 use Rattle.bits.proofs.Loops.{any-one}
-use Rattle.model.specs.Map.{Image, activeSet, stateAt, outputDisableAt, squelchForceAt}
+use Rattle.model.specs.Map.{Image, activeSet, stateAt, outputDisableAt, squelchForceAt, imageLength}
 use Rattle.model.specs.PathStates.{codeOf, stateOf}
 use Rattle.model.specs.View.{settingsOf, pathOf}
-use Rattle.model.specs.Groups.{someIn}
-use Rattle.model.specs.Triggers.{State}
+use Rattle.model.specs.State.{State}
 use Rattle.model.specs.Hardware.{someBit, toDeactivate, signalsOf, nextState, isState}
 use Rattle.model.specs.declared.answer.Answer.the-variants.{Done}
 use Rattle.model.specs.declared.event.Call.the-variants.{Hardware}
@@ -82,7 +81,7 @@ shown n to = split (isState (stateOf n) to)
     (λ t. rw (pick-true n (codeOf to) t) (same-state _ _ t))
     (λ t. rw (pick-false n (codeOf to) t) (state-back to))
 
-module _ (room : ℕ) (s : State) (bytes : List ℕ) (l : ℕ) (d : stepOn room s (Hardware l) bytes .answer ≡ Done) (size : length (s .image) ≡ 768)
+module _ (room : ℕ) (s : State) (bytes : List ℕ) (l : ℕ) (d : stepOn room s (Hardware l) bytes .answer ≡ Done) (size : length (s .image) ≡ imageLength)
     (m : ℕ) (b : m < 8) (h : has (pathOf (settingsOf activeSet (s .image)) l) m ≡ true)
     (agree : get (s .image) (stateAt m) ≡ get (s .image) (stateAt l)) where
   -- a lane of the path, which showed the path's state, shows the one that follows

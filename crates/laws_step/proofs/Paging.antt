@@ -11,15 +11,15 @@ use lib.Seq.{getD-set-same, getD-set-other, length-take-le, take-suc}
 use borrow.Author.Tests.{eqb-true, eqb-false, le-ltb, lt-ltb, le-leb, lt-leb}
 use Rattle.bits.specs.Choice.{pick, both, either, implies}
 use Rattle.bits.proofs.Tests.{split, clash}
-use Rattle.model.specs.Map.{Image, imageLength, bankSelect, pageSelect, inRanges, writable}
-use Rattle.model.specs.Triggers.{State}
-use Rattle.model.specs.Pages.{findPage, pagePlace, placeOf, withPage, pageSelected}
-use Rattle.model.specs.Access.{withImage, stored, byteWritten, bytesWritten, halfEnd}
-use Rattle.model.specs.Flags.{settled}
-use Rattle.model.specs.Step.{event, carried, done}
+use Rattle.model.specs.Map.{Image, imageLength, bankSelect, pageSelect, inRanges, writable, page10, page11}
+use Rattle.model.specs.State.{State, withImage}
+use Rattle.model.specs.Pages.{findPage, pageStart, indexOf, withPage, selectedImage}
+use Rattle.model.specs.Access.{storedState, byteWrittenState, bytesWrittenState, halfEnd}
+use Rattle.model.specs.Flags.{settledImage}
+use Rattle.model.specs.Step.{event, eventEffect, doneStep}
 use Rattle.model.specs.declared.answer.Answer.the-variants.{Done}
 use Rattle.model.specs.declared.event.Call.the-variants.{Write}
-use Rattle.model.specs.declared.page.PagePlace.the-variants.{Unsupported, At}
+use Rattle.model.specs.declared.page.PageStart.the-variants.{Unsupported, At}
 use Rattle.laws_step.specs.Told.{stepOn, isSupported, bankAt, PageRule}
 use Rattle.laws_step.proofs.Settling.{settled-byte}
 use Rattle.laws_step.proofs.Stepped.{done-step}
@@ -30,7 +30,7 @@ use Rattle.laws_step.proofs.Writing.{in-half}
 -- the lookup finds the pages that are supported, and no other
 Found : ℕ → ℕ → Type 0
 Found bank page =
-    ((isSupported bank page ≡ true) × (start : ℕ) × (pagePlace bank page ≡ At start)) ⊎ ((isSupported bank page ≡ false) × (pagePlace bank page ≡ Unsupported))
+    ((isSupported bank page ≡ true) × (start : ℕ) × (pageStart bank page ≡ At start)) ⊎ ((isSupported bank page ≡ false) × (pageStart bank page ≡ Unsupported))
 
 both-no : (b : Bool) → both b false ≡ false
 unfolding both
@@ -38,43 +38,43 @@ both-no true = refl
 both-no false = refl
 
 page-found : (bank page : ℕ) → Found bank page
-unfolding Found isSupported pagePlace findPage pick both either implies
+unfolding Found isSupported pageStart findPage pick both either implies
 page-found bank page = split (eqb page 0)
     (λ a. inl (rw (eqb-true page 0 a), 128, rw (eqb-true page 0 a)))
     (λ a. split (eqb page 1) (λ b. inl (rw (eqb-true page 1 b), 256, rw (eqb-true page 1 b)))
     (λ b. split (eqb page 2) (λ c. inl (rw (eqb-true page 2 c), 384, rw (eqb-true page 2 c)))
     (λ c. let l : ltb page 3 ≡ false = le-ltb page 3 (omega (arith, eqb-false page 0 a, eqb-false page 1 b, eqb-false page 2 c)) in
     split (eqb bank 0)
-    (λ z. split (eqb page 16) (λ d. inl (rw (l, z, d, either, both), 512, rw (a, b, c, d, z, both, implies, pick)))
+    (λ z. split (eqb page 16) (λ d. inl (rw (l, z, d, either, both), page10, rw (a, b, c, d, z, both, implies, pick)))
     (λ d. split (eqb page 17)
-    (λ e. inl (rw (l, z, d, e, either, both), 640, rw (a, b, c, d, e, z, both, implies, pick)))
+    (λ e. inl (rw (l, z, d, e, either, both), page11, rw (a, b, c, d, e, z, both, implies, pick)))
     (λ e. inr (rw (l, z, d, e, either, both), rw (a, b, c, d, e, both, pick)))))
     (λ z. inr (rw (l, z, either, both), rw (a, b, c, z, both-no (eqb page 16), both-no (eqb page 17), both, pick))))))
 
 -- bytes 126 and 127 after it
 module _ (x : Image) (v : ℕ) (size : length x ≡ imageLength) where
-  found-page : (start : ℕ) → pagePlace (getD x 126 0) v ≡ At start → (getD (pageSelected v x) 127 0 ≡ v) × (getD (pageSelected v x) 126 0 ≡ getD x 126 0)
-  unfolding pageSelected
+  found-page : (start : ℕ) → pageStart (getD x 126 0) v ≡ At start → (getD (selectedImage v x) 127 0 ≡ v) × (getD (selectedImage v x) 126 0 ≡ getD x 126 0)
+  unfolding selectedImage
   found-page start e = (
     rw (e, withPage) (getD-set-same x 127 v 0 (omega arith)),
     rw (e, withPage) (getD-set-other x 127 126 v 0 (omega arith)),
   )
 
-  reset-page : pagePlace (getD x 126 0) v ≡ Unsupported → (getD (pageSelected v x) 127 0 ≡ 0) × (getD (pageSelected v x) 126 0 ≡ 0)
-  unfolding pageSelected
+  reset-page : pageStart (getD x 126 0) v ≡ Unsupported → (getD (selectedImage v x) 127 0 ≡ 0) × (getD (selectedImage v x) 126 0 ≡ 0)
+  unfolding selectedImage
   reset-page e = (
     rw (e, withPage) (getD-set-same (set x 126 0) 127 0 0 (omega (arith, length-set x 126 0))),
     rw (e, withPage) (getD-set-other (set x 126 0) 127 126 0 0 (omega arith) ∙ getD-set-same x 126 0 0 (omega arith)),
   )
 
-  rule : PageRule (getD x 126 0) v (pageSelected v x)
+  rule : PageRule (getD x 126 0) v (selectedImage v x)
   unfolding Found
   rule = elim (page-found (getD x 126 0) v) [
     | inl f ↦ record { supported = λ e. found-page (f .1) (f .2); otherwise = λ e. absurd (clash (f .0) e) }
     | inr f ↦ record { supported = λ e. absurd (clash e (f .0)); otherwise = λ e. reset-page (f .1) }
   ]
 
-  rule-settled : PageRule (getD x 126 0) v (settled (pageSelected v x))
+  rule-settled : PageRule (getD x 126 0) v (settledImage (selectedImage v x))
   rule-settled = record {
     supported = λ e. let r = rule .supported e in (settled-byte _ 127 (omega arith) ∙ r .0, settled-byte _ 126 (omega arith) ∙ r .1);
     otherwise = λ e. let r = rule .otherwise e in (settled-byte _ 127 (omega arith) ∙ r .0, settled-byte _ 126 (omega arith) ∙ r .1);
@@ -88,26 +88,26 @@ module _ (s : State) (a k : ℕ) (bytes : List ℕ) (size : length (s .image) �
 
   -- the state when its turn comes
   until : State
-  until = bytesWritten a (take k bytes) s
+  until = bytesWrittenState a (take k bytes) s
 
   until-size : length (until .image) ≡ imageLength
   unfolding until
   until-size = lower-written a 127 (take k bytes) a s (omega arith) (omega (arith, fits)) (omega (arith, fits)) .bits .size ∙ size
 
-  last-byte : bytesWritten a (take (suc k) bytes) s ≡ withImage until (pageSelected (getD bytes k 0) (until .image))
-  unfolding until bytesWritten byteWritten stored placeOf pick
-  last-byte = ap (λ vs. bytesWritten a vs s) (take-suc bytes k 0 (omega arith))
+  last-byte : bytesWrittenState a (take (suc k) bytes) s ≡ withImage until (selectedImage (getD bytes k 0) (until .image))
+  unfolding until bytesWrittenState byteWrittenState storedState indexOf pick
+  last-byte = ap (λ vs. bytesWrittenState a vs s) (take-suc bytes k 0 (omega arith))
       ∙ bytes-append a (take k bytes) (getD bytes k 0 ∷ []) s
       ∙ rw (fits, e)
 
 -- 126 then holds the bank
 bank-until : (s : State) (a k : ℕ) (bytes : List ℕ) → length (s .image) ≡ imageLength → suc k ≤ length bytes → a + k ≡ pageSelect
-    → getD (bytesWritten a (take k bytes) s .image) bankSelect 0 ≡ bankAt (s .image) a bytes
-unfolding bytesWritten bankAt placeOf halfEnd writable inRanges both either pick
+    → getD (bytesWrittenState a (take k bytes) s .image) bankSelect 0 ≡ bankAt (s .image) a bytes
+unfolding bytesWrittenState bankAt indexOf halfEnd writable inRanges both either pick
 bank-until s a zero bytes size n e = rw (lt-leb a 126 (omega arith), pick)
 bank-until s a (suc k) bytes size n e =
     let q : 126 - a ≡ k = omega arith in
-    let p : placeOf (s .image) a + k ≡ 126 = rw (lt-ltb a 128 (omega arith), pick) (omega arith) in
+    let p : indexOf (s .image) a + k ≡ 126 = rw (lt-ltb a 128 (omega arith), pick) (omega arith) in
     rw (le-leb a 126 (omega arith), pick, q, take-suc bytes k 0 (omega arith))
     (rw p at (in-the-middle a k (take k bytes) [] (getD bytes k 0) s (length-take-le k bytes (omega arith))
     (rw (lt-ltb a 128 (omega arith), pick) (omega arith)) size (rw p) (λ f. refl)))
@@ -116,7 +116,7 @@ bank-until s a (suc k) bytes size n e =
 pub page-rule : (room : ℕ) (s : State) (address count : ℕ) (bytes : List ℕ) → length (s .image) ≡ imageLength → count ≤ length bytes
     → stepOn room s (Write address count) bytes .answer ≡ Done → address ≤ pageSelect → pageSelect < address + count
     → PageRule (bankAt (s .image) address bytes) (getD bytes (pageSelect - address) 0) (stepOn room s (Write address count) bytes .state .image)
-unfolding done carried halfEnd until pick
+unfolding doneStep eventEffect halfEnd until pick
 page-rule room s address count bytes size n d lo hi =
     let k = 127 - address in
     let end : address + count ≤ 128 = rw (lt-ltb address 128 (omega arith), pick) at (in-half room s bytes address count d) in

@@ -16,7 +16,7 @@ use Rattle.bits.proofs.Tests.{clash, both-l, both-r, either-cases}
 use Rattle.bits.proofs.Loops.{all-at}
 use Rattle.bits.proofs.Lanes.{lane-in}
 use Rattle.bits.proofs.Places.{covers-in}
-use Rattle.model.specs.Map.{Image, Range, range, inRanges, writableRanges, writable, clearedRanges, clearing, activeSet, settingOffsets, settingWidths, settingAt}
+use Rattle.model.specs.Map.{Image, Range, range, inRanges, writableRanges, writable, clearedRanges, clearing, activeSet, settingOffsets, settingWidths, settingAt, setLength, imageLength}
 use Rattle.model.specs.Flags.{isConditionFlag}
 use Rattle.model.specs.View.{settingsAt}
 use Rattle.laws_step.specs.Changes.{Bits, ChangesOnly}
@@ -57,7 +57,7 @@ settings-fit : allBelow 8 (λ k. both (leb (getD settingOffsets k 0 + getD setti
 unfolding allBelow both
 settings-fit = refl
 
-pub setting-bytes : (base k l i b : ℕ) → k < 8 → l < 8 → covers (settingAt base k l) i b ≡ true → (base ≤ i) × (i < base + 29)
+pub setting-bytes : (base k l i b : ℕ) → k < 8 → l < 8 → covers (settingAt base k l) i b ≡ true → (base ≤ i) × (i < base + setLength)
 unfolding settingAt
 setting-bytes base k l i b hk hl c =
     let t = all-at 8 _ settings-fit k hk in
@@ -67,7 +67,7 @@ setting-bytes base k l i b hk hl c =
     (omega arith, omega arith)
 
 -- the active set lies in the image
-pub in-image : (x : Image) (k l : ℕ) → length x ≡ 768 → l < 8 → k < 8 → settingAt activeSet k l .byte < length x
+pub in-image : (x : Image) (k l : ℕ) → length x ≡ imageLength → l < 8 → k < 8 → settingAt activeSet k l .byte < length x
 unfolding settingAt
 in-image x k l size hl hk =
     let t = all-at 8 _ settings-fit k hk in

@@ -17,11 +17,11 @@ use Rattle.bits.proofs.Number.{field-past}
 use Rattle.bits.proofs.Loops.{all-at, tab-at, length-tab, none-any}
 use Rattle.model.specs.Map.{Image, imageLength, interruptBit, kept, inRanges, flagBytes}
 use Rattle.model.specs.Answers.{isDone}
-use Rattle.model.specs.Triggers.{State}
+use Rattle.model.specs.State.{State}
 use Rattle.model.specs.Work.{early}
-use Rattle.model.specs.Flags.{isUnmasked, interrupts, settled}
-use Rattle.model.specs.Start.{isStateByte, startValue, startByte, started}
-use Rattle.model.specs.Step.{step, done, carried}
+use Rattle.model.specs.Flags.{isUnmasked, interrupts, settledImage}
+use Rattle.model.specs.Start.{isStateByte, startValue, startByte, startedState}
+use Rattle.model.specs.Step.{step, doneStep, eventEffect}
 use Rattle.model.specs.Outcome.{startOutcome}
 use Rattle.model.specs.declared.answer.Answer.the-variants.{Done}
 use Rattle.model.specs.declared.event.Event.{Event}
@@ -37,17 +37,17 @@ use Rattle.laws_step.proofs.Calling.{calls-from-start}
 
 module _ (room : ℕ) (s : State) (e : Event) where
   -- after every event that is done, lower 3.0 is 0 exactly when an unmasked flag bit is 1
-  pub interrupt-exactly : length (s .image) ≡ 768 → step early room s e .answer ≡ Done
+  pub interrupt-exactly : length (s .image) ≡ imageLength → step early room s e .answer ≡ Done
       → (get (step early room s e .state .image) interruptBit ≡ 0) ↔ UnmaskedFlag (step early room s e .state .image)
-  unfolding done
+  unfolding doneStep
   interrupt-exactly size d =
-      let y = carried early s (e .bytes) (e .call) .state .image in
-      let k : length (settled y) ≡ 768 = (rw (done-step room s e d) at (step-kept room s e .size)) ∙ size in
+      let y = eventEffect early s (e .bytes) (e .call) .state .image in
+      let k : length (settledImage y) ≡ imageLength = (rw (done-step room s e d) at (step-kept room s e .size)) ∙ size in
       rw (done-step room s e d) (settled-bit y (omega (arith, settled-changes y .size)))
 
   -- an event that is done settles lower 3.0, and one that is refused leaves it settled
   pub step-settled : Settled (s .image) → Settled (step early room s e .state .image)
-  unfolding done isDone
+  unfolding doneStep isDone
   step-settled k = split (isDone (step early room s e .answer))
       (λ t. rw (done-step room s e (done-is _ t)) (settled-twice _))
       (λ t. rw (refused-step room s e (λ d. clash (ap isDone d) t)) k)
@@ -55,39 +55,39 @@ module _ (room : ℕ) (s : State) (e : Event) where
 -- ---- start
 
 module _ (x : Image) where
-  start-byte : (i : ℕ) → i < 768 → getD (started x .image) i 0 ≡ startByte x i
-  unfolding started
-  start-byte i h = tab-at 768 (startByte x) i 0 h
+  start-byte : (i : ℕ) → i < imageLength → getD (startedState x .image) i 0 ≡ startByte x i
+  unfolding startedState
+  start-byte i h = tab-at imageLength (startByte x) i 0 h
 
   -- start clears every flag byte
   flags-cleared : allBelow 20 (λ k. both (not (kept (flagBytes + k))) (eqb (startValue (flagBytes + k)) 0)) ≡ true
   unfolding allBelow both either kept inRanges startValue isStateByte pick
   flags-cleared = refl
 
-  start-flag : (k : ℕ) → k < 20 → getD (started x .image) (flagBytes + k) 0 ≡ 0
+  start-flag : (k : ℕ) → k < 20 → getD (startedState x .image) (flagBytes + k) 0 ≡ 0
   unfolding startByte
   start-flag k h = let t = all-at 20 _ flags-cleared k h in
       start-byte (flagBytes + k) (omega arith) ∙ pick-false _ _ (not-true _ (both-l _ _ t)) ∙ eqb-true _ _ (both-r _ _ t)
 
-  start-quiet : interrupts (started x .image) ≡ false
+  start-quiet : interrupts (startedState x .image) ≡ false
   unfolding interrupts isUnmasked digit both
   start-quiet = none-any 20 _ (λ k h. none-any 8 _ (λ b c. rw (start-flag k h, field-past 0 0 b 1 (omega arith) (omega arith), both)))
 
-  start-interrupt : get (started x .image) interruptBit ≡ 1
+  start-interrupt : get (startedState x .image) interruptBit ≡ 1
   unfolding get field startByte startValue kept inRanges both either pick
   start-interrupt = rw (start-byte 3 (omega arith))
 
-  start-settled : Settled (started x .image)
-  start-settled = settled-if (started x .image) (start-interrupt ∙ sym (pick-false 0 1 start-quiet))
+  start-settled : Settled (startedState x .image)
+  start-settled = settled-if (startedState x .image) (start-interrupt ∙ sym (pick-false 0 1 start-quiet))
 
-  start-reserved : (i : ℕ) → Reserved i → getD (started x .image) i 0 ≡ 0
+  start-reserved : (i : ℕ) → Reserved i → getD (startedState x .image) i 0 ≡ 0
   unfolding startByte startValue kept inRanges isStateByte both either pick
   start-reserved i (inl e) = rw e (start-byte 727 (omega arith))
   start-reserved i (inr e) = rw e (start-byte 728 (omega arith))
 
-  start-size : length (started x .image) ≡ 768
-  unfolding started
-  start-size = length-tab 768 (startByte x)
+  start-size : length (startedState x .image) ≡ imageLength
+  unfolding startedState
+  start-size = length-tab imageLength (startByte x)
 
 -- ---- any calls after it
 

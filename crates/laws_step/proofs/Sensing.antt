@@ -20,13 +20,13 @@ use Rattle.bits.proofs.Tests.{split, clash, both-i, pick-true, pick-false, only
 use Rattle.bits.proofs.Words.{length-put-word, word-byte-other, word-put, word-ext}
 use Rattle.bits.proofs.Places.{get-put}
 use Rattle.bits.proofs.Lanes.{lane-in, lane-width}
-use Rattle.model.specs.Map.{Image, flagAt, receivedPower, highAlarm, lowAlarm, highWarning, highAlarmFlag, lowAlarmFlag, highWarningFlag, lowWarningFlag, page11, on}
-use Rattle.model.specs.Triggers.{State}
-use Rattle.model.specs.Flags.{isConditionFlag, conditionSet, power, raised, sampled, settled}
+use Rattle.model.specs.Map.{Image, flagAt, receivedPower, highAlarmLimit, lowAlarmLimit, highWarningLimit, highAlarmFlag, lowAlarmFlag, highWarningFlag, lowWarningFlag, page11, on, imageLength}
+use Rattle.model.specs.State.{State}
+use Rattle.model.specs.Flags.{isConditionFlag, conditionImage, power, raisedImage, sampledImage, settledImage}
 use Rattle.model.specs.Refusals.{noSuchLane, eventRefusals}
 use Rattle.model.specs.Answers.{isDone}
-use Rattle.model.specs.Step.{event, carried, done}
-use Rattle.model.specs.declared.answer.Answer.the-variants.{Done, NoSuchPlace}
+use Rattle.model.specs.Step.{event, eventEffect, doneStep}
+use Rattle.model.specs.declared.answer.Answer.the-variants.{Done, NoSuchTarget}
 use Rattle.model.specs.declared.event.Call.the-variants.{Condition, Sample}
 use Rattle.laws_step.specs.Changes.{ChangesOnly, orIn, inBytes, interruptSet, flagSet}
 use Rattle.laws_step.specs.Told.{stepOn, amid, sampleSet, PowerTold}
@@ -40,21 +40,21 @@ use Rattle.laws_step.proofs.Moving.{flag-changes, flags-written}
 
 module _ (room : ℕ) (s : State) (bytes : List ℕ) (flag mask : ℕ) (d : stepOn room s (Condition flag mask) bytes .answer ≡ Done) where
   pub condition-changes : ChangesOnly (orIn interruptSet (flagSet flag (has mask))) (s .image) (stepOn room s (Condition flag mask) bytes .state .image)
-  unfolding carried conditionSet
+  unfolding eventEffect conditionImage
   condition-changes = step-changes room s (event (Condition flag mask) bytes) _ d (flag-changes flag mask (s .image))
 
   pub condition-keeps-records : stepOn room s (Condition flag mask) bytes .state .working ≡ s .working
-  unfolding done carried
+  unfolding doneStep eventEffect
   condition-keeps-records = rw (done-step room s (event (Condition flag mask) bytes) d)
 
   pub is-listed : isConditionFlag flag ≡ true
   unfolding eventRefusals isDone
-  is-listed = not-false _ (not-refused NoSuchPlace _ [] refl (none-refused room s (event (Condition flag mask) bytes) d) .0)
+  is-listed = not-false _ (not-refused NoSuchTarget _ [] refl (none-refused room s (event (Condition flag mask) bytes) d) .0)
 
   -- every bit of the mask is set
-  pub condition-sets : length (s .image) ≡ 768 → (m : ℕ) → m < 8 → has mask m ≡ true
+  pub condition-sets : length (s .image) ≡ imageLength → (m : ℕ) → m < 8 → has mask m ≡ true
       → get (stepOn room s (Condition flag mask) bytes .state .image) (flagAt flag m) ≡ 1
-  unfolding done carried conditionSet
+  unfolding doneStep eventEffect conditionImage
   condition-sets size m h e = rw (done-step room s (event (Condition flag mask) bytes) d)
       (settled-lane _ (on page11 flag) 1 m (omega arith) ∙ flags-written flag mask (s .image) m (omega (arith, condition-in flag is-listed)) h e)
 
@@ -62,23 +62,23 @@ module _ (room : ℕ) (s : State) (bytes : List ℕ) (flag mask : ℕ) (d : step
 
 -- a flag that is raised or not
 module _ (test : Bool) (flag l : ℕ) (y : Image) (h : l < 8) where
-  raise-changes : ChangesOnly (flagSet flag (eqb l)) y (raised test flag l y)
-  unfolding raised flagSet
+  raise-changes : ChangesOnly (flagSet flag (eqb l)) y (raisedImage test flag l y)
+  unfolding raisedImage flagSet
   raise-changes = keeps-only _ test _ y (keeps-put _ y (flagAt flag l) 1 (λ i b c. in-lanes (eqb l) (on page11 flag) 1 l i b h (eq-eqb l l refl) c))
 
-  raise-here : on page11 flag < length y → get (raised test flag l y) (flagAt flag l) ≡ pick test 1 (get y (flagAt flag l))
-  unfolding raised
+  raise-here : on page11 flag < length y → get (raisedImage test flag l y) (flagAt flag l) ≡ pick test 1 (get y (flagAt flag l))
+  unfolding raisedImage
   raise-here b = split test
       (λ t. rw (only-true (λ z. put z (flagAt flag l) 1) y t) (get-put y (flagAt flag l) 1 (omega (arith, lane-in (on page11 flag) 1 l h refl))
       ∙ ap (λ k. 1 % 2 ^ k) (lane-width (on page11 flag) 1 l)) ∙ sym (pick-true _ _ t))
       (λ t. rw (only-false (λ z. put z (flagAt flag l) 1) y t) refl ∙ sym (pick-false _ _ t))
 
-  raise-beside : (other m : ℕ) → m < 8 → on page11 flag ≢ on page11 other → get (raised test flag l y) (flagAt other m) ≡ get y (flagAt other m)
+  raise-beside : (other m : ℕ) → m < 8 → on page11 flag ≢ on page11 other → get (raisedImage test flag l y) (flagAt other m) ≡ get y (flagAt other m)
   unfolding flagSet
   raise-beside other m b n = keeps-lane raise-changes (on page11 other) 1 m b refl (λ i j p q.
       unless (λ t. let r = lanes-bytes (eqb l) (on page11 flag) 1 i j refl t in n (omega arith)))
 
-  raise-byte : (i : ℕ) → on page11 flag < i → getD (raised test flag l y) i 0 ≡ getD y i 0
+  raise-byte : (i : ℕ) → on page11 flag < i → getD (raisedImage test flag l y) i 0 ≡ getD y i 0
   unfolding flagSet
   raise-byte i o = keeps-byte raise-changes i (λ b. unless (λ t. let r = lanes-bytes (eqb l) (on page11 flag) 1 i b refl t in omega arith))
 
@@ -100,16 +100,16 @@ module _ (l p : ℕ) (x : Image) (h : l < 8) where
   inPlace = putWord 2 x (receivedPower + 2 * l) p
 
   one : Image
-  one = raised (ltb (power x highAlarm) p) highAlarmFlag l inPlace
+  one = raisedImage (ltb (power x highAlarmLimit) p) highAlarmFlag l inPlace
 
   two : Image
-  two = raised (ltb p (power x lowAlarm)) lowAlarmFlag l one
+  two = raisedImage (ltb p (power x lowAlarmLimit)) lowAlarmFlag l one
 
   three : Image
-  three = raised (ltb (power x highWarning) p) highWarningFlag l two
+  three = raisedImage (ltb (power x highWarningLimit) p) highWarningFlag l two
 
-  sample-changes : ChangesOnly (sampleSet l) x (sampled l p x)
-  unfolding sampleSet sampled inPlace one two three
+  sample-changes : ChangesOnly (sampleSet l) x (sampledImage l p x)
+  unfolding sampleSet sampledImage inPlace one two three
   sample-changes =
       keeps-then (keeps-left _ (word-changes x (receivedPower + 2 * l) p))
       (keeps-then (keeps-right _ (keeps-left _ (keeps-left _ (raise-changes _ highAlarmFlag l inPlace h))))
@@ -123,20 +123,20 @@ module _ (l p : ℕ) (x : Image) (h : l < 8) where
   flag-beside address b = keeps-lane (word-changes x (receivedPower + 2 * l) p) (on page11 address) 1 l h refl (λ i j u v.
       rw (lt-leb (receivedPower + 2 * l) i (omega arith), both))
 
-  module _ (size : length x ≡ 768) where
-    size-one : length inPlace ≡ 768
+  module _ (size : length x ≡ imageLength) where
+    size-one : length inPlace ≡ imageLength
     unfolding inPlace
     size-one = length-put-word 2 x (receivedPower + 2 * l) p ∙ size
 
-    size-two : length one ≡ 768
+    size-two : length one ≡ imageLength
     unfolding one
     size-two = raise-changes _ highAlarmFlag l inPlace h .size ∙ size-one
 
-    size-three : length two ≡ 768
+    size-three : length two ≡ imageLength
     unfolding two
     size-three = raise-changes _ lowAlarmFlag l one h .size ∙ size-two
 
-    size-four : length three ≡ 768
+    size-four : length three ≡ imageLength
     unfolding three
     size-four = raise-changes _ highWarningFlag l two h .size ∙ size-three
 
@@ -153,12 +153,12 @@ module _ (l p : ℕ) (x : Image) (h : l < 8) where
     unfolding three
     after-three a = raise-beside _ highWarningFlag l two h a l h
 
-    after-four : (a : ℕ) → on page11 lowWarningFlag ≢ on page11 a → get (settled (sampled l p x)) (flagAt a l) ≡ get three (flagAt a l)
-    unfolding sampled three two one inPlace
+    after-four : (a : ℕ) → on page11 lowWarningFlag ≢ on page11 a → get (settledImage (sampledImage l p x)) (flagAt a l) ≡ get three (flagAt a l)
+    unfolding sampledImage three two one inPlace
     after-four a n = settled-lane _ (on page11 a) 1 l (omega arith) ∙ raise-beside _ lowWarningFlag l three h a l h n
 
-    power-byte : (i : ℕ) → receivedPower ≤ i → getD (settled (sampled l p x)) i 0 ≡ getD inPlace i 0
-    unfolding sampled three two one inPlace
+    power-byte : (i : ℕ) → receivedPower ≤ i → getD (settledImage (sampledImage l p x)) i 0 ≡ getD inPlace i 0
+    unfolding sampledImage three two one inPlace
     power-byte i o =
         settled-byte _ i (omega arith)
         ∙ raise-byte _ lowWarningFlag l three h i (omega arith)
@@ -166,10 +166,10 @@ module _ (l p : ℕ) (x : Image) (h : l < 8) where
         ∙ raise-byte _ lowAlarmFlag l one h i (omega arith)
         ∙ raise-byte _ highAlarmFlag l inPlace h i (omega arith)
 
-    sample-told : p < 65536 → PowerTold l p x (settled (sampled l p x))
-    unfolding sampled three two one inPlace
+    sample-told : p < 65536 → PowerTold l p x (settledImage (sampledImage l p x))
+    unfolding sampledImage three two one inPlace
     sample-told fits = record {
-      stored = word-ext 2 (settled (sampled l p x)) inPlace (receivedPower + 2 * l) (λ k b. power-byte (receivedPower + 2 * l + k) (omega arith))
+      stored = word-ext 2 (settledImage (sampledImage l p x)) inPlace (receivedPower + 2 * l) (λ k b. power-byte (receivedPower + 2 * l + k) (omega arith))
           ∙ word-put 2 x (receivedPower + 2 * l) p (omega arith)
           ∙ mod-eq-of-lt fits;
       aboveAlarm = after-four 149 (omega arith) ∙ after-three 149 (omega arith) ∙ after-two 149 (omega arith)
@@ -190,17 +190,17 @@ module _ (l p : ℕ) (x : Image) (h : l < 8) where
 module _ (room : ℕ) (s : State) (bytes : List ℕ) (l p : ℕ) (d : stepOn room s (Sample l p) bytes .answer ≡ Done) where
   pub is-lane : l < 8
   unfolding eventRefusals noSuchLane isDone
-  is-lane = ltb-true l 8 (not-false _ (not-refused NoSuchPlace _ [] refl (none-refused room s (event (Sample l p) bytes) d) .0))
+  is-lane = ltb-true l 8 (not-false _ (not-refused NoSuchTarget _ [] refl (none-refused room s (event (Sample l p) bytes) d) .0))
 
   pub sampled-changes : ChangesOnly (orIn interruptSet (sampleSet l)) (s .image) (stepOn room s (Sample l p) bytes .state .image)
-  unfolding carried
+  unfolding eventEffect
   sampled-changes = step-changes room s (event (Sample l p) bytes) _ d (sample-changes l p (s .image) is-lane)
 
   pub sampled-keeps-records : stepOn room s (Sample l p) bytes .state .working ≡ s .working
-  unfolding done carried
+  unfolding doneStep eventEffect
   sampled-keeps-records = rw (done-step room s (event (Sample l p) bytes) d)
 
   -- the power, 16 bits, is stored, and the lane's flags tell which limits it passes
-  pub sampled-told : length (s .image) ≡ 768 → p < 65536 → PowerTold l p (s .image) (stepOn room s (Sample l p) bytes .state .image)
-  unfolding done carried
+  pub sampled-told : length (s .image) ≡ imageLength → p < 65536 → PowerTold l p (s .image) (stepOn room s (Sample l p) bytes .state .image)
+  unfolding doneStep eventEffect
   sampled-told size fits = rw (done-step room s (event (Sample l p) bytes) d) (sample-told l p (s .image) is-lane size fits)

@@ -7,11 +7,11 @@ use borrow.Author.Tests.{lt-ltb}
 use Rattle.bits.specs.Choice.{pick}
 use Rattle.bits.proofs.Tests.{split, clash}
 use Rattle.model.specs.Answers.{isDone}
-use Rattle.model.specs.Triggers.{State}
-use Rattle.model.specs.Lanes.{stageAt, isInProgress}
-use Rattle.model.specs.Work.{early, workedBy, workedOn, workStep}
+use Rattle.model.specs.State.{State}
+use Rattle.model.specs.Records.{stageAt, isInProgress}
+use Rattle.model.specs.Work.{early, workEffectBy, workEffectOn, workEffect}
 use Rattle.model.specs.Refusals.{Refusal, refuse, firstOf, noSuchLane, eventRefusals}
-use Rattle.model.specs.Step.{step, carried, done, refused, answered}
+use Rattle.model.specs.Step.{step, eventEffect, doneStep, refusedStep, answeredStep}
 use Rattle.model.specs.declared.answer.Answer.{Answer}
 use Rattle.model.specs.declared.answer.Answer.the-variants.{Done}
 use Rattle.model.specs.declared.event.Call.the-variants.{Work}
@@ -33,28 +33,28 @@ not-refused a false rs n e = (refl, e)
 module _ (room : ℕ) (s : State) (e : Event) where
   -- the refusals that a step asks for are all false when it is done
   pub none-refused : step early room s e .answer ≡ Done → firstOf (eventRefusals room s (e .call)) ≡ Done
-  unfolding step answered done refused pick
+  unfolding step answeredStep doneStep refusedStep pick
   none-refused d = split (isDone (firstOf (eventRefusals room s (e .call)))) (λ i. done-is _ i) (λ i. rw (i, pick) at d)
 
-  pub done-step : step early room s e .answer ≡ Done → step early room s e ≡ done Done (carried early s (e .bytes) (e .call))
-  unfolding step answered done isDone pick
+  pub done-step : step early room s e .answer ≡ Done → step early room s e ≡ doneStep Done (eventEffect early s (e .bytes) (e .call))
+  unfolding step answeredStep doneStep isDone pick
   done-step d = rw (none-refused d, isDone, pick)
 
   pub refused-step : (step early room s e .answer ≡ Done → ⊥) → step early room s e .state ≡ s
-  unfolding step answered done refused pick
+  unfolding step answeredStep doneStep refusedStep pick
   refused-step n = split (isDone (firstOf (eventRefusals room s (e .call))))
       (λ i. absurd (n (rw (i, pick) (done-is _ i))))
       (λ i. rw (i, pick))
 
   -- so a done step changes what the event changes, and lower 3.0
   pub step-changes : (may : Bits) → step early room s e .answer ≡ Done
-      → ChangesOnly may (s .image) (carried early s (e .bytes) (e .call) .state .image)
+      → ChangesOnly may (s .image) (eventEffect early s (e .bytes) (e .call) .state .image)
       → ChangesOnly (orIn interruptSet may) (s .image) (step early room s e .state .image)
-  unfolding done
+  unfolding doneStep
   step-changes may d k = rw (done-step d) (keeps-then (keeps-right interruptSet k) (keeps-left may (settled-changes _)))
 
 -- a lane in progress is worked on
 pub work-done : (room : ℕ) (s : State) (bytes : List ℕ) (l : ℕ) (p : Progress) → l < 8 → stageAt (s .working) l ≡ InProgress p
-    → stepOn room s (Work l) bytes ≡ done Done (workedBy (p .verdict) early s (p .group) (p .trigger))
-unfolding step answered eventRefusals firstOf noSuchLane isInProgress isDone carried workStep workedOn pick
-work-done room s bytes l p h i = rw (lt-ltb l 8 h, i, isInProgress, pick, workedOn)
+    → stepOn room s (Work l) bytes ≡ doneStep Done (workEffectBy (p .verdict) early s (p .group) (p .trigger))
+unfolding step answeredStep eventRefusals firstOf noSuchLane isInProgress isDone eventEffect workEffect workEffectOn pick
+work-done room s bytes l p h i = rw (lt-ltb l 8 h, i, isInProgress, pick, workEffectOn)

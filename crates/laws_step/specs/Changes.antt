@@ -7,7 +7,8 @@ use Rattle.bits.specs.Choice.{both, either}
 use Rattle.bits.specs.Lane.{laneField}
 use Rattle.bits.specs.Loop.{anyBelow}
 use Rattle.bits.specs.Place.{digit, covers}
-use Rattle.model.specs.Map.{Image, laneCount, page11, on, interruptBit, activeSet, settingCount, settingAt}
+use Rattle.model.specs.Map.{Image, page11, on, interruptBit, activeSet, settingCount, settingAt}
+use Rattle.bits.specs.Sets.{laneCount}
 
 -- a set of bits of the image, by byte and bit
 abbrev pub Bits : Type 0

@@ -8,18 +8,18 @@ use lib.Dec.{eqb, leb, ltb}
 use lib.ListN.{length, getD}
 use Rattle.bits.specs.Choice.{pick, both, either}
 use Rattle.bits.specs.Place.{get, digit}
-use Rattle.bits.specs.Sets.{has, nextIn}
-use Rattle.model.specs.Map.{Image, page11, on, laneCount, activeSet, outputDisableAt, squelchForceAt, statusAt, stateAt, bankSelect, pageSelect, writable, clearing, flagBytes, flagMasks, flagByteCount, pendingAt, flagAt, stateChanged, receivedPower, highAlarm, lowAlarm, highWarning, lowWarning, highAlarmFlag, lowAlarmFlag, highWarningFlag, lowWarningFlag}
+use Rattle.bits.specs.Sets.{has, nextIn, laneCount, firstIn}
+use Rattle.model.specs.Map.{Image, page11, on, activeSet, outputDisableAt, squelchForceAt, statusAt, stateAt, bankSelect, pageSelect, writable, clearing, flagBytes, flagMasks, flagByteCount, pendingAt, flagAt, stateChangedFlag, receivedPower, highAlarmLimit, lowAlarmLimit, highWarningLimit, lowWarningLimit, highAlarmFlag, lowAlarmFlag, highWarningFlag, lowWarningFlag}
 use Rattle.model.specs.PathStates.{codeOf, resting}
-use Rattle.model.specs.Lanes.{stageAt, isInProgress, heldIn, withVerdict}
+use Rattle.model.specs.Records.{stageAt, isInProgress, heldIn, withVerdict}
 use Rattle.model.specs.View.{viewOf, settingsAt}
-use Rattle.model.specs.Groups.{firstIn}
-use Rattle.model.specs.Triggers.{State, isMarked, isIgnored}
-use Rattle.model.specs.Work.{early, isRelease, written}
-use Rattle.model.specs.Hardware.{isState, initialized}
-use Rattle.model.specs.Flags.{power, settled}
-use Rattle.model.specs.Pages.{placeOf}
-use Rattle.model.specs.Step.{event, Out, step}
+use Rattle.model.specs.State.{State}
+use Rattle.model.specs.Triggers.{isMarked, isIgnored}
+use Rattle.model.specs.Work.{early, isRelease, writtenSettings}
+use Rattle.model.specs.Hardware.{isState, isInitialized}
+use Rattle.model.specs.Flags.{power, settledImage}
+use Rattle.model.specs.Pages.{indexOf}
+use Rattle.model.specs.Step.{event, Stepped, step}
 use Rattle.model.specs.declared.event.Call.{Call}
 use Rattle.model.specs.declared.event.Call.the-variants.{Work}
 use Rattle.model.specs.declared.lane.Trigger.{Trigger}
@@ -33,7 +33,7 @@ use Rattle.model.specs.declared.path.PathState.the-variants.{Activated, TxTurnO
 use Rattle.laws_step.specs.Changes.{Bits, orIn, inBytes, statusSet, stateSet, flagSet, pendingSet}
 
 -- one event on a state; room is the length of the buffer that a read is lent, bytes are those that a write carries
-abbrev pub stepOn : ℕ → State → Call → List ℕ → Out
+abbrev pub stepOn : ℕ → State → Call → List ℕ → Stepped
 stepOn room s c bytes = step early room s (event c bytes)
 
 -- a flag bit in 11h:134-153 is 1 and its mask bit, 79 addresses higher on 10h, is 0
@@ -51,7 +51,7 @@ amid from to i = both (leb from i) (ltb i to)
 
 -- the bytes that a read of n bytes from an address clears: of lower 8-9 and 11h:134-153 those that it reads
 unfoldable pub clearedBy : Image → ℕ → ℕ → Bits
-clearedBy x address n = inBytes (λ i. both (clearing i) (amid (placeOf x address) (placeOf x address + n) i))
+clearedBy x address n = inBytes (λ i. both (clearing i) (amid (indexOf x address) (indexOf x address + n) i))
 
 -- lane l is marked by a trigger
 unfoldable pub marks : Trigger → ℕ → State → ℕ → ℕ → Bool
@@ -106,7 +106,7 @@ pendingThen false Immediate before = before
 -- (the lane count where there is none), and every other lane keeps its record
 pub record CopiedLane (g n : ℕ) (before after : State) : Type 0 where
   pub member : has g n ≡ true
-  pub settings : settingsAt activeSet (after .image) n ≡ written (heldIn (stageAt (before .working) n))
+  pub settings : settingsAt activeSet (after .image) n ≡ writtenSettings (heldIn (stageAt (before .working) n))
   pub next : (m : ℕ) → m < laneCount → has g m ≡ true
       → stageAt (after .working) m ≡ withVerdict (stageAt (before .working) m) (Pass (nextIn laneCount g (suc n)))
   pub others : (m : ℕ) → m < laneCount → has g m ≡ false → stageAt (after .working) m ≡ stageAt (before .working) m
@@ -126,16 +126,16 @@ pub record Commissions (s : State) (lane : ℕ) (p : Progress) : Type 0 where
 
 -- what a hardware event on a path may change: DPState, DPStateChanged and DPInitPending of the path's lanes
 unfoldable pub pathSet : ℕ → Bits
-pathSet g = orIn (stateSet (has g)) (orIn (flagSet stateChanged (has g)) (pendingSet (has g)))
+pathSet g = orIn (stateSet (has g)) (orIn (flagSet stateChangedFlag (has g)) (pendingSet (has g)))
 
 -- the path g went from a state to the next: its lanes show it, entering a resting state sets their DPStateChanged flags, and DPInitialized reached from
 -- DPInit clears their DPInitPending bits; a path that stays changes nothing
 pub record PathMoved (g : ℕ) (from to : PathState) (before after : Image) : Type 0 where
   pub states : (m : ℕ) → m < laneCount → has g m ≡ true → get after (stateAt m) ≡ pick (isState from to) (get before (stateAt m)) (codeOf to)
   pub flags : (m : ℕ) → m < laneCount → has g m ≡ true
-      → get after (flagAt stateChanged m) ≡ pick (both (not (isState from to)) (resting to)) 1 (get before (flagAt stateChanged m))
+      → get after (flagAt stateChangedFlag m) ≡ pick (both (not (isState from to)) (resting to)) 1 (get before (flagAt stateChangedFlag m))
   pub pendings : (m : ℕ) → m < laneCount → has g m ≡ true
-      → get after (pendingAt m) ≡ pick (both (not (isState from to)) (initialized from to)) 0 (get before (pendingAt m))
+      → get after (pendingAt m) ≡ pick (both (not (isState from to)) (isInitialized from to)) 0 (get before (pendingAt m))
 
 -- a lane of the path g whose output is to be dark: its OutputDisableTx or OutputSquelchForceTx bit is 1
 pub record MutedLane (x : Image) (g : ℕ) : Type 0 where
@@ -157,10 +157,10 @@ sampleSet l =
 -- a power of lane l was stored, and each of its flags is set if the power is past the limit, else left
 pub record PowerTold (l p : ℕ) (before after : Image) : Type 0 where
   pub stored : power after (receivedPower + 2 * l) ≡ p
-  pub aboveAlarm : get after (flagAt highAlarmFlag l) ≡ pick (ltb (power before highAlarm) p) 1 (get before (flagAt highAlarmFlag l))
-  pub belowAlarm : get after (flagAt lowAlarmFlag l) ≡ pick (ltb p (power before lowAlarm)) 1 (get before (flagAt lowAlarmFlag l))
-  pub aboveWarning : get after (flagAt highWarningFlag l) ≡ pick (ltb (power before highWarning) p) 1 (get before (flagAt highWarningFlag l))
-  pub belowWarning : get after (flagAt lowWarningFlag l) ≡ pick (ltb p (power before lowWarning)) 1 (get before (flagAt lowWarningFlag l))
+  pub aboveAlarm : get after (flagAt highAlarmFlag l) ≡ pick (ltb (power before highAlarmLimit) p) 1 (get before (flagAt highAlarmFlag l))
+  pub belowAlarm : get after (flagAt lowAlarmFlag l) ≡ pick (ltb p (power before lowAlarmLimit)) 1 (get before (flagAt lowAlarmFlag l))
+  pub aboveWarning : get after (flagAt highWarningFlag l) ≡ pick (ltb (power before highWarningLimit) p) 1 (get before (flagAt highWarningFlag l))
+  pub belowWarning : get after (flagAt lowWarningFlag l) ≡ pick (ltb p (power before lowWarningLimit)) 1 (get before (flagAt lowWarningFlag l))
 
 -- ---- every event
 
@@ -175,4 +175,4 @@ pub record Kept (before after : Image) : Type 0 where
 
 -- lower 3.0 is as it should be: settling it changes nothing
 abbrev pub Settled : Image → Type 0
-Settled x = settled x ≡ x
+Settled x = settledImage x ≡ x

@@ -15,7 +15,7 @@ use Rattle.bits.proofs.Tests.{split, clash, both-l, both-r, both-i}
 use Rattle.bits.proofs.Number.{number-ext}
 use Rattle.bits.proofs.Places.{length-put, put-same-digit, get-ext}
 use Rattle.bits.proofs.Loops.{each-two, each-ext, any-find, any-none, none-any}
-use Rattle.model.specs.Map.{Image, settingAt, activeSet}
+use Rattle.model.specs.Map.{Image, settingAt, activeSet, pendingByte}
 use Rattle.laws_whole.specs.Whole.{isActiveBit, activeBitOf, Alike}
 use Rattle.laws_whole.proofs.Area.{place-active, one-owner, owned-here}
 
@@ -75,17 +75,17 @@ module _ (c : ℕ → Bool) where
   unfolding activeBitOf
   of-find i b e = let r = any-find 8 (λ l. both (c l) (isActiveBit l i b)) e in (r .0, r .1, both-l _ _ (r .2), both-r _ _ (r .2))
 
-  of-below : (i b : ℕ) → i < 718 → activeBitOf c i b ≡ false
+  of-below : (i b : ℕ) → i < activeSet → activeBitOf c i b ≡ false
   of-below i b h = of-none i b (λ l hl p. split (isActiveBit l i b) (λ o. absurd (omega (arith, owned-here l i b hl o))) (λ o. o))
 
-  of-above : (i b : ℕ) → 747 ≤ i → activeBitOf c i b ≡ false
+  of-above : (i b : ℕ) → pendingByte ≤ i → activeBitOf c i b ≡ false
   of-above i b h = of-none i b (λ l hl p. split (isActiveBit l i b) (λ o. absurd (omega (arith, owned-here l i b hl o))) (λ o. o))
 
   -- the bytes beside the active settings are the same
-  pub alike-below : (x y : Image) → Alike (activeBitOf c) x y → (i : ℕ) → i < 718 → getD x i 0 ≡ getD y i 0
+  pub alike-below : (x y : Image) → Alike (activeBitOf c) x y → (i : ℕ) → i < activeSet → getD x i 0 ≡ getD y i 0
   alike-below x y A i h = alike-byte (activeBitOf c) x y i A (λ b. of-below i b h)
 
-  pub alike-above : (x y : Image) → Alike (activeBitOf c) x y → (i : ℕ) → 747 ≤ i → getD x i 0 ≡ getD y i 0
+  pub alike-above : (x y : Image) → Alike (activeBitOf c) x y → (i : ℕ) → pendingByte ≤ i → getD x i 0 ≡ getD y i 0
   alike-above x y A i h = alike-byte (activeBitOf c) x y i A (λ b. of-above i b h)
 
   -- so are the settings of a lane that is not meant

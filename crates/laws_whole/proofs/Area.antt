@@ -14,7 +14,7 @@ use Rattle.bits.proofs.Tests.{split, clash}
 use Rattle.bits.proofs.Places.{In, covers-in, apart-covers}
 use Rattle.bits.proofs.Lanes.{table-apart}
 use Rattle.bits.proofs.Loops.{any-find, any-one}
-use Rattle.model.specs.Map.{settingAt, settingOffsets, settingWidths, activeSet}
+use Rattle.model.specs.Map.{settingAt, settingOffsets, settingWidths, activeSet, setLength}
 use Rattle.laws_frames.proofs.Registers.{setting-from, setting-to}
 use Rattle.laws_whole.specs.Whole.{isActiveBit}
 
@@ -43,7 +43,7 @@ one-owner l m i b hl hm p q = split (eqb l m) (λ e. eqb-true l m e)
     (lanes-apart (r .0) l (s .0) m (r .1) hl (s .1) hm (eqb-false l m e)) (r .2))))
 
 -- and it lies in the active settings' bytes
-pub owned-here : (l i b : ℕ) → l < 8 → isActiveBit l i b ≡ true → (718 ≤ i) × (i < 747)
+pub owned-here : (l i b : ℕ) → l < 8 → isActiveBit l i b ≡ true → (activeSet ≤ i) × (i < activeSet + setLength)
 owned-here l i b hl p =
     let r = active-place l i b p in
     let h : In (settingAt activeSet (r .0) l) i b = covers-in _ i b (r .2) in

@@ -7,23 +7,23 @@ use lib.ListN.{getD, set}
 use Rattle.bits.specs.Choice.{pick, onlyIf}
 use Rattle.bits.specs.Lane.{laneField}
 use Rattle.bits.specs.Place.{get, put, digit}
-use Rattle.bits.specs.Sets.{has}
+use Rattle.bits.specs.Sets.{has, someIn}
 use Rattle.bits.specs.Word.{putWord}
 use Rattle.bits.specs.declared.Place.{Place}
 use Rattle.bits.proofs.Loops.{each-two, any-ext}
-use Rattle.model.specs.Map.{Image, stateAt, statusAt, pendingAt, flagAt, interruptBit, steppedBit, receivedPower, clearing}
-use Rattle.model.specs.Groups.{someIn}
-use Rattle.model.specs.Triggers.{withStatus, isIgnored}
+use Rattle.model.specs.Map.{Image, stateAt, statusAt, pendingAt, flagAt, interruptBit, steppedBit, receivedPower, clearing, activeSet, flagBytes, flagMasks, highAlarmLimit, lowAlarmLimit, highWarningLimit, lowWarningLimit, page10}
+use Rattle.model.specs.Registers.{withStatus, withPending, withPathState, withFlags}
+use Rattle.model.specs.Triggers.{isIgnored}
 use Rattle.model.specs.PathStates.{codeOf}
-use Rattle.model.specs.Work.{withPending, pendingAfter}
-use Rattle.model.specs.Hardware.{someBit, toDeinit, toReinit, toDeactivate, signalsOf, nextState, withState, withFlags, entered, moved, movedPath}
-use Rattle.model.specs.Flags.{raised, sampled, isUnmasked, interrupts, settled, conditionSet, power}
-use Rattle.model.specs.Pages.{withPage, pagePlace, selectedStart, placeOf, pageSelected}
-use Rattle.model.specs.Access.{cleared}
+use Rattle.model.specs.Work.{pendingAfter}
+use Rattle.model.specs.Hardware.{someBit, toDeinit, toReinit, toDeactivate, signalsOf, nextState, enteredImage, movedImage, movedPathImage}
+use Rattle.model.specs.Flags.{raisedImage, sampledImage, isUnmasked, interrupts, settledImage, conditionImage, power}
+use Rattle.model.specs.Pages.{withPage, pageStart, selectedStart, indexOf, selectedImage}
+use Rattle.model.specs.Access.{clearedImage}
 use Rattle.model.specs.declared.lane.Trigger.{Trigger}
 use Rattle.model.specs.declared.lane.Trigger.the-variants.{DpInit, Immediate}
-use Rattle.model.specs.declared.page.PagePlace.{PagePlace}
-use Rattle.model.specs.declared.page.PagePlace.the-variants.{Unsupported, At}
+use Rattle.model.specs.declared.page.PageStart.{PageStart}
+use Rattle.model.specs.declared.page.PageStart.the-variants.{Unsupported, At}
 use Rattle.model.specs.declared.path.PathState.{PathState}
 use Rattle.laws_frames.proofs.Outside.{get-same}
 use Rattle.laws_frames.proofs.Registers.{pending-same, state-same, word-same, lane-to}
@@ -55,38 +55,38 @@ module _ (except : ℕ → ℕ → Bool) where
   unfolding withFlags
   alike-flags address g x y A = alike-puts except (has g) (has g) (flagAt address) 1 8 x y (λ l b. refl) A
 
-  pub alike-condition : (flag mask : ℕ) (x y : Image) → Alike except x y → Alike except (conditionSet flag mask x) (conditionSet flag mask y)
-  unfolding conditionSet
+  pub alike-condition : (flag mask : ℕ) (x y : Image) → Alike except x y → Alike except (conditionImage flag mask x) (conditionImage flag mask y)
+  unfolding conditionImage
   alike-condition flag mask x y A = alike-flags flag mask x y A
 
-  alike-state : (g : ℕ) (to : PathState) (x y : Image) → Alike except x y → Alike except (withState g to x) (withState g to y)
-  unfolding withState
+  alike-state : (g : ℕ) (to : PathState) (x y : Image) → Alike except x y → Alike except (withPathState g to x) (withPathState g to y)
+  unfolding withPathState
   alike-state g to x y A = alike-puts except (has g) (has g) stateAt (codeOf to) 8 x y (λ l b. refl) A
 
-  alike-entered : (g : ℕ) (from to : PathState) (x y : Image) → Alike except x y → Alike except (entered g from to x) (entered g from to y)
-  unfolding entered
+  alike-entered : (g : ℕ) (from to : PathState) (x y : Image) → Alike except x y → Alike except (enteredImage g from to x) (enteredImage g from to y)
+  unfolding enteredImage
   alike-entered g from to x y A = alike-only _ _ _ _ (alike-flags 134 g _ _) (alike-only _ _ _ _ (alike-pending (has g) 0 _ _) (alike-state g to x y A))
 
-  alike-raised : (test : Bool) (flag l : ℕ) (x y : Image) → Alike except x y → Alike except (raised test flag l x) (raised test flag l y)
-  unfolding raised
+  alike-raised : (test : Bool) (flag l : ℕ) (x y : Image) → Alike except x y → Alike except (raisedImage test flag l x) (raisedImage test flag l y)
+  unfolding raisedImage
   alike-raised test flag l x y A = alike-only test (λ z. put z (flagAt flag l) 1) x y (alike-put except x y (flagAt flag l) 1) A
 
   alike-word : (at v : ℕ) (x y : Image) → Alike except x y → Alike except (putWord 2 x at v) (putWord 2 y at v)
   unfolding putWord
   alike-word at v x y A = alike-set except _ _ (at + 1) (v % 256) (alike-set except x y (at + 0) (v / 256 % 256) A)
 
-  alike-page : (place : PagePlace) (page : ℕ) (x y : Image) → Alike except x y → Alike except (withPage place page x) (withPage place page y)
+  alike-page : (place : PageStart) (page : ℕ) (x y : Image) → Alike except x y → Alike except (withPage place page x) (withPage place page y)
   alike-page Unsupported page x y A = alike-set except _ _ 127 0 (alike-set except x y 126 0 A)
   alike-page (At start) page x y A = alike-set except x y 127 page A
 
-  pub alike-cleared : (i n : ℕ) (x y : Image) → Alike except x y → Alike except (cleared x i n) (cleared y i n)
-  unfolding cleared
+  pub alike-cleared : (i n : ℕ) (x y : Image) → Alike except x y → Alike except (clearedImage x i n) (clearedImage y i n)
+  unfolding clearedImage
   alike-cleared i n x y A = each-two (Alike except) (λ k. clearing (i + k)) (λ k z. set z (i + k) 0) (λ k z. set z (i + k) 0) n
       (λ k u z b t. alike-set except u z (i + k) 0) x y A
 
 -- ---- active-setting bits of the lanes of c may differ: everything else that is looked at is the same
 module _ (c : ℕ → Bool) (x y : Image) (A : Alike (activeBitOf c) x y) where
-  pub low : (i : ℕ) → i < 718 → getD y i 0 ≡ getD x i 0
+  pub low : (i : ℕ) → i < activeSet → getD y i 0 ≡ getD x i 0
   low i b = sym (alike-below c x y A i b)
 
   pub ignored-same : (t : Trigger) → isIgnored t y ≡ isIgnored t x
@@ -94,28 +94,28 @@ module _ (c : ℕ → Bool) (x y : Image) (A : Alike (activeBitOf c) x y) where
   ignored-same DpInit = refl
   ignored-same Immediate = rw (get-same x y steppedBit (low 2 (omega arith)))
 
-  pub place-same : (address : ℕ) → placeOf y address ≡ placeOf x address
-  unfolding placeOf selectedStart
+  pub place-same : (address : ℕ) → indexOf y address ≡ indexOf x address
+  unfolding indexOf selectedStart
   place-same address = rw (low 126 (omega arith), low 127 (omega arith))
 
-  pub alike-selected : (page : ℕ) → Alike (activeBitOf c) (pageSelected page x) (pageSelected page y)
-  unfolding pageSelected
-  alike-selected page = rw (low 126 (omega arith)) (alike-page (activeBitOf c) (pagePlace (getD x 126 0) page) page x y A)
+  pub alike-selected : (page : ℕ) → Alike (activeBitOf c) (selectedImage page x) (selectedImage page y)
+  unfolding selectedImage
+  alike-selected page = rw (low 126 (omega arith)) (alike-page (activeBitOf c) (pageStart (getD x 126 0) page) page x y A)
 
   interrupts-same : interrupts y ≡ interrupts x
   unfolding interrupts isUnmasked digit
-  interrupts-same = any-ext 20 _ _ (λ k hk. any-ext 8 _ _ (λ b hb. rw (low (646 + k) (omega arith), low (597 + k) (omega arith))))
+  interrupts-same = any-ext 20 _ _ (λ k hk. any-ext 8 _ _ (λ b hb. rw (low (flagBytes + k) (omega arith), low (flagMasks + k) (omega arith))))
 
-  pub alike-settled : Alike (activeBitOf c) (settled x) (settled y)
-  unfolding settled
+  pub alike-settled : Alike (activeBitOf c) (settledImage x) (settledImage y)
+  unfolding settledImage
   alike-settled = rw interrupts-same (alike-put (activeBitOf c) x y interruptBit (pick (interrupts x) 0 1) A)
 
-  limit-same : (at : ℕ) → at + 2 ≤ 718 → power y at ≡ power x at
+  limit-same : (at : ℕ) → at + 2 ≤ activeSet → power y at ≡ power x at
   limit-same at h = word-same 2 at x y (λ i a b. low i (omega arith))
 
-  pub alike-sampled : (l p : ℕ) → Alike (activeBitOf c) (sampled l p x) (sampled l p y)
-  unfolding sampled
-  alike-sampled l p = rw (limit-same 448 (omega arith), limit-same 450 (omega arith), limit-same 452 (omega arith), limit-same 454 (omega arith))
+  pub alike-sampled : (l p : ℕ) → Alike (activeBitOf c) (sampledImage l p x) (sampledImage l p y)
+  unfolding sampledImage
+  alike-sampled l p = rw (limit-same highAlarmLimit (omega arith), limit-same lowAlarmLimit (omega arith), limit-same highWarningLimit (omega arith), limit-same lowWarningLimit (omega arith))
       (alike-raised (activeBitOf c) _ 152 l _ _ (alike-raised (activeBitOf c) _ 151 l _ _
       (alike-raised (activeBitOf c) _ 150 l _ _ (alike-raised (activeBitOf c) _ 149 l _ _ (alike-word (activeBitOf c) (receivedPower + 2 * l) p x y A)))))
 
@@ -127,12 +127,12 @@ module _ (c : ℕ → Bool) (x y : Image) (A : Alike (activeBitOf c) x y) where
   some-same place g same = any-ext 8 _ _ (λ m b. rw (same m b))
 
   -- a byte of controls, a bit a lane
-  control-same : (byte g : ℕ) → byte < 718 → someBit y (laneField byte 1) g ≡ someBit x (laneField byte 1) g
+  control-same : (byte g : ℕ) → byte < activeSet → someBit y (laneField byte 1) g ≡ someBit x (laneField byte 1) g
   control-same byte g h = some-same (laneField byte 1) g (λ m b. get-same x y (laneField byte 1 m) (low _ (omega (arith, lane-to byte 1 m b refl))))
 
   deinit-same : (g : ℕ) → toDeinit y g ≡ toDeinit x g
   unfolding toDeinit
-  deinit-same g = control-same 512 g (omega arith)
+  deinit-same g = control-same page10 g (omega arith)
 
   reinit-same : (g : ℕ) → toReinit y g ≡ toReinit x g
   unfolding toReinit
@@ -146,7 +146,7 @@ module _ (c : ℕ → Bool) (x y : Image) (A : Alike (activeBitOf c) x y) where
   unfolding signalsOf
   signals-same g = λ i. record { deinit = deinit-same g i; reinit = reinit-same g i; deactivate = deactivate-same g i }
 
-  pub alike-moved : (g : ℕ) (from : PathState) → Alike (activeBitOf c) (movedPath x g from) (movedPath y g from)
-  unfolding movedPath moved
+  pub alike-moved : (g : ℕ) (from : PathState) → Alike (activeBitOf c) (movedPathImage x g from) (movedPathImage y g from)
+  unfolding movedPathImage movedImage
   alike-moved g from = rw (signals-same g)
-      (alike-only (activeBitOf c) _ (entered g from (nextState from (signalsOf x g))) x y (alike-entered (activeBitOf c) g from _ x y) A)
+      (alike-only (activeBitOf c) _ (enteredImage g from (nextState from (signalsOf x g))) x y (alike-entered (activeBitOf c) g from _ x y) A)

@@ -6,13 +6,13 @@ use Prim.Native.Nat.{ℕ, _<_}
 use native.Mathlib.Omega.{arith}
 use borrow.Author.Tests.{not-true}
 use Rattle.bits.specs.Choice.{both}
-use Rattle.bits.specs.Sets.{has}
+use Rattle.bits.specs.Sets.{has, firstIn, someIn}
 use Rattle.bits.proofs.Tests.{split, clash, both-l, both-r, both-i, pick-true, pick-false}
 use Rattle.bits.proofs.Loops.{any-ext, any-none}
 use Rattle.bits.proofs.Masks.{mask-ext, first-in}
-use Rattle.model.specs.Lanes.{stageAt, isInProgress, isPassing, anyInProgress}
+use Rattle.model.specs.Records.{stageAt, isInProgress, isPassing, anyInProgress}
 use Rattle.model.specs.View.{View, of, samePath, pathOf}
-use Rattle.model.specs.Groups.{releasedWith, inGroup, groupOf, firstIn, someIn}
+use Rattle.model.specs.Groups.{releasedWith, inGroup, groupOf}
 use Rattle.model.specs.Verdicts.{otherAppSel, crossing, tooLate, wrongState, unsupported, applyBy, applyVerdict, pathRelease, releaseVerdict, verdictOf}
 use Rattle.model.specs.Triggers.{isMarked, markedStage, stageAfter}
 use Rattle.model.specs.declared.lane.Settings.{Settings}

@@ -16,18 +16,17 @@ use Rattle.bits.proofs.Loops.{tab-at, tab-past, length-tab}
 use Rattle.model.specs.Map.{Image, applyDPInit, applyImmediate, stateAt}
 use Rattle.model.specs.Answers.{isDone}
 use Rattle.model.specs.PathStates.{stateOf}
-use Rattle.model.specs.Lanes.{stageAt, isInProgress}
+use Rattle.model.specs.Records.{stageAt, isInProgress}
 use Rattle.model.specs.View.{pathOf}
-use Rattle.model.specs.Triggers.{State}
+use Rattle.model.specs.State.{State, withImage, stateWith}
 use Rattle.model.specs.Work.{early, late}
-use Rattle.model.specs.Hardware.{hardwareMoved}
-use Rattle.model.specs.Flags.{isConditionFlag, settled}
-use Rattle.model.specs.Pages.{placeOf}
-use Rattle.model.specs.Access.{withImage, shown, taken, writeLimit, halfEnd, isBadAccess}
+use Rattle.model.specs.Hardware.{hardwareImage}
+use Rattle.model.specs.Flags.{isConditionFlag, settledImage}
+use Rattle.model.specs.Pages.{indexOf}
+use Rattle.model.specs.Access.{shownByte, takenBytes, writeLimit, halfEnd, isBadAccess}
 use Rattle.model.specs.Refusals.{refuse, firstOf, noSuchLane, isBusy, isUnused, eventRefusals}
-use Rattle.model.specs.Step.{readAt, carried}
-use Rattle.model.specs.Outcome.{state}
-use Rattle.model.specs.declared.answer.Answer.the-variants.{BadAccess, Busy, NoSuchPlace}
+use Rattle.model.specs.Step.{readEffect, eventEffect}
+use Rattle.model.specs.declared.answer.Answer.the-variants.{BadAccess, Busy, NoSuchTarget}
 use Rattle.model.specs.declared.event.Call.{Call}
 use Rattle.model.specs.declared.event.Call.the-variants.{Write, Read, Work, Hardware, Condition, Sample}
 use Rattle.model.specs.declared.lane.Working.{Working}
@@ -50,7 +49,7 @@ unfolding hidden
 hidden-veiled w i b h = of-none (passed w) i b (λ l hl p. none-of (λ l. isInProgress (stageAt w l)) l i b hl h (passing-busy (stageAt w l) p))
 
 -- lower 3.0 settled in both
-pub settled-pair : (s a : State) → Paired s a → Paired (withImage s (settled (s .image))) (withImage a (settled (a .image)))
+pub settled-pair : (s a : State) → Paired s a → Paired (withImage s (settledImage (s .image))) (withImage a (settledImage (a .image)))
 settled-pair s a Q = record {
   working = Q .working;
   pair = record {
@@ -65,31 +64,31 @@ lane-below : (l : ℕ) → noSuchLane l ≡ false → l < 8
 unfolding noSuchLane
 lane-below l e = ltb-true l 8 (not-false _ e)
 
-module _ (x y : Image) (w : Working) (S : Sound (seenOf (state x w))) (P : Pair x y w) where
+module _ (x y : Image) (w : Working) (S : Sound (seenOf (stateWith x w))) (P : Pair x y w) where
   -- ---- refusals
-  busy-same : (l : ℕ) → l < 8 → isBusy (state x w) l ≡ isBusy (state y w) l
+  busy-same : (l : ℕ) → l < 8 → isBusy (stateWith x w) l ≡ isBusy (stateWith y w) l
   unfolding isBusy either
   busy-same l b = split (isInProgress (stageAt w l))
       (λ p. rw (p, either))
       (λ p. rw (same-lanes x y w S P l b (idle-passing (stageAt w l) p)))
 
-  idle-of : (l : ℕ) → isBusy (state x w) l ≡ false → isInProgress (stageAt w l) ≡ false
+  idle-of : (l : ℕ) → isBusy (stateWith x w) l ≡ false → isInProgress (stageAt w l) ≡ false
   unfolding isBusy
   idle-of l e = either-l _ _ e
 
-  unused-same : (l : ℕ) → l < 8 → isBusy (state x w) l ≡ false → isUnused (state x w) l ≡ isUnused (state y w) l
+  unused-same : (l : ℕ) → l < 8 → isBusy (stateWith x w) l ≡ false → isUnused (stateWith x w) l ≡ isUnused (stateWith y w) l
   unfolding isUnused
   unused-same l b e = rw (same-active x y w S P l b (idle-passing (stageAt w l) (idle-of l e)))
 
-  hardware-same : (room l : ℕ) → firstOf (eventRefusals room (state x w) (Hardware l)) ≡ firstOf (eventRefusals room (state y w) (Hardware l))
+  hardware-same : (room l : ℕ) → firstOf (eventRefusals room (stateWith x w) (Hardware l)) ≡ firstOf (eventRefusals room (stateWith y w) (Hardware l))
   unfolding eventRefusals firstOf pick
   hardware-same room l = split (noSuchLane l)
       (λ n. rw (n, pick))
-      (λ n. let b : l < 8 = lane-below l n in split (isBusy (state x w) l)
+      (λ n. let b : l < 8 = lane-below l n in split (isBusy (stateWith x w) l)
       (λ u. rw (n, ← (busy-same l b), u, pick))
       (λ u. rw (n, ← (busy-same l b), u, unused-same l b u)))
 
-  pub refusals-same : (room : ℕ) (c : Call) → firstOf (eventRefusals room (state x w) c) ≡ firstOf (eventRefusals room (state y w) c)
+  pub refusals-same : (room : ℕ) (c : Call) → firstOf (eventRefusals room (stateWith x w) c) ≡ firstOf (eventRefusals room (stateWith y w) c)
   unfolding eventRefusals
   refusals-same room (Write address count) = refl
   refusals-same room (Read address count) = refl
@@ -99,33 +98,33 @@ module _ (x y : Image) (w : Working) (S : Sound (seenOf (state x w))) (P : Pair 
   refusals-same room (Sample l p) = refl
 
   -- ---- reads
-  shown-alike : (i b : ℕ) → veiled w i b ≡ false → field (shown x i) b 1 ≡ field (shown y i) b 1
-  unfolding shown pick digit
+  shown-alike : (i b : ℕ) → veiled w i b ≡ false → field (shownByte x i) b 1 ≡ field (shownByte y i) b 1
+  unfolding shownByte pick digit
   shown-alike i b h = split (either (eqb i applyDPInit) (eqb i applyImmediate))
       (λ e. rw (e, pick))
       (λ e. rw (e, pick) (P .alike .bits i b h))
 
-  taken-alike : (i n : ℕ) → Alike (λ k b. hidden w (i + k) b) (taken x i n) (taken y i n)
-  unfolding taken digit
+  taken-alike : (i n : ℕ) → Alike (λ k b. hidden w (i + k) b) (takenBytes x i n) (takenBytes y i n)
+  unfolding takenBytes digit
   taken-alike i n = record {
     size = length-tab n _ ∙ sym (length-tab n _);
     bits = λ k b h. elim (decLt k n) [
-      | yes l ↦ rw (tab-at n (λ k. shown x (i + k)) k 0 l, tab-at n (λ k. shown y (i + k)) k 0 l) (shown-alike (i + k) b (hidden-veiled w (i + k) b h))
-      | no l ↦ rw (tab-past n (λ k. shown x (i + k)) k 0 (omega arith), tab-past n (λ k. shown y (i + k)) k 0 (omega arith))
+      | yes l ↦ rw (tab-at n (λ k. shownByte x (i + k)) k 0 l, tab-at n (λ k. shownByte y (i + k)) k 0 l) (shown-alike (i + k) b (hidden-veiled w (i + k) b h))
+      | no l ↦ rw (tab-past n (λ k. shownByte x (i + k)) k 0 (omega arith), tab-past n (λ k. shownByte y (i + k)) k 0 (omega arith))
     ];
   }
 
-  read-carries : (address count : ℕ) → Carries (hiddenRead (state x w) (Read address count)) (readAt (state x w) (placeOf x address) count) (readAt (state y w) (placeOf y address) count)
-  unfolding readAt hiddenRead
+  read-carries : (address count : ℕ) → Carries (hiddenRead (stateWith x w) (Read address count)) (readEffect (stateWith x w) (indexOf x address) count) (readEffect (stateWith y w) (indexOf y address) count)
+  unfolding readEffect hiddenRead
   read-carries address count = rw (place-same (passed w) x y (P .alike) address) (record {
     states = changed x y _ _ w P (keeps-cleared x _ count) (keeps-cleared y _ count) (alike-cleared (veiled w) _ count x y (P .alike));
     mask = refl;
-    bytes = taken-alike (placeOf x address) count;
+    bytes = taken-alike (indexOf x address) count;
   })
 
   -- ---- hardware
-  hardware-alike : (l : ℕ) → l < 8 → isInProgress (stageAt w l) ≡ false → Alike (veiled w) (hardwareMoved x l) (hardwareMoved y l)
-  unfolding hardwareMoved
+  hardware-alike : (l : ℕ) → l < 8 → isInProgress (stageAt w l) ≡ false → Alike (veiled w) (hardwareImage x l) (hardwareImage y l)
+  unfolding hardwareImage
   hardware-alike l b f = rw (← (same-lanes x y w S P l b (idle-passing (stageAt w l) f)), state-read (passed w) x y (P .alike) l b)
       (alike-moved (passed w) x y (P .alike) (pathOf (activeOf x) l) (stateOf (get x (stateAt l))))
 
@@ -141,24 +140,24 @@ write-fits address count bytes e =
     omega (arith, length-take count bytes, half-end address)
 
 -- ---- what is carried out
-module _ (x y : Image) (w : Working) (two : ℕ) (T : Well two (state x w)) (P : Pair x y w) where
-  pub carried-pair : (room : ℕ) (bytes : List ℕ) (c : Call) → isDone (firstOf (eventRefusals room (state x w) c)) ≡ true
-      → Carries (hiddenRead (state x w) c) (carried early (state x w) bytes c) (carried late (state y w) bytes c)
-  unfolding carried eventRefusals isDone
+module _ (x y : Image) (w : Working) (two : ℕ) (T : Well two (stateWith x w)) (P : Pair x y w) where
+  pub carried-pair : (room : ℕ) (bytes : List ℕ) (c : Call) → isDone (firstOf (eventRefusals room (stateWith x w) c)) ≡ true
+      → Carries (hiddenRead (stateWith x w) c) (eventEffect early (stateWith x w) bytes c) (eventEffect late (stateWith y w) bytes c)
+  unfolding eventEffect eventRefusals isDone
   carried-pair room bytes (Write address count) d =
       let e = not-refused (refuse BadAccess (isBadAccess writeLimit address count)) [] refl d .0 in
       leaves-pair _ (bytes-pair (take count bytes) address x y w two T P (write-fits address count bytes e))
   carried-pair room bytes (Read address count) d = read-carries x y w (T .sound) P address count
   carried-pair room bytes (Work l) d =
-      work-carries x y w (T .sound) P _ l (lane-below l (not-refused (refuse NoSuchPlace (noSuchLane l)) _ refl d .0))
+      work-carries x y w (T .sound) P _ l (lane-below l (not-refused (refuse NoSuchTarget (noSuchLane l)) _ refl d .0))
   carried-pair room bytes (Hardware l) d =
-      let a = not-refused (refuse NoSuchPlace (noSuchLane l)) _ refl d in
+      let a = not-refused (refuse NoSuchTarget (noSuchLane l)) _ refl d in
       let b : l < 8 = lane-below l (a .0) in
-      let f = idle-of x y w (T .sound) P l (not-refused (refuse Busy (isBusy (state x w) l)) _ refl (a .1) .0) in
+      let f = idle-of x y w (T .sound) P l (not-refused (refuse Busy (isBusy (stateWith x w) l)) _ refl (a .1) .0) in
       leaves-pair _ (changed x y _ _ w P (keeps-hardware l x) (keeps-hardware l y) (hardware-alike x y w (T .sound) P l b f))
   carried-pair room bytes (Condition flag mask) d =
-      let e : isConditionFlag flag ≡ true = not-false _ (not-refused (refuse NoSuchPlace (not (isConditionFlag flag))) _ refl d .0) in
+      let e : isConditionFlag flag ≡ true = not-false _ (not-refused (refuse NoSuchTarget (not (isConditionFlag flag))) _ refl d .0) in
       leaves-pair _ (changed x y _ _ w P (keeps-condition flag mask x e) (keeps-condition flag mask y e) (alike-condition (veiled w) flag mask x y (P .alike)))
   carried-pair room bytes (Sample l p) d =
-      let b : l < 8 = lane-below l (not-refused (refuse NoSuchPlace (noSuchLane l)) _ refl d .0) in
+      let b : l < 8 = lane-below l (not-refused (refuse NoSuchTarget (noSuchLane l)) _ refl d .0) in
       leaves-pair _ (changed x y _ _ w P (keeps-sample l p x b) (keeps-sample l p y b) (alike-sampled (passed w) x y (P .alike) l p))

@@ -6,12 +6,13 @@ use native.Mathlib.Omega.{arith}
 use Rattle.bits.specs.Choice.{pick}
 use Rattle.bits.proofs.Tests.{split, pick-false}
 use Rattle.bits.proofs.Loops.{tab-ext}
-use Rattle.model.specs.Map.{Image, stagedSet0}
+use Rattle.model.specs.Map.{Image, stagedSet0, activeSet}
 use Rattle.model.specs.Statuses.{inProgress}
-use Rattle.model.specs.Lanes.{recordAt, stageAt, isPassing, withStage, withStages}
+use Rattle.model.specs.Records.{recordAt, stageAt, isPassing, withStage, withStages}
 use Rattle.model.specs.View.{viewOf, of, applicationsOf}
-use Rattle.model.specs.Triggers.{withStatus, isMarked, stageAfter, marked, isIgnored, triggered}
-use Rattle.model.specs.Outcome.{state}
+use Rattle.model.specs.Registers.{withStatus}
+use Rattle.model.specs.Triggers.{isMarked, stageAfter, markedState, isIgnored, triggeredState}
+use Rattle.model.specs.State.{stateWith}
 use Rattle.model.specs.declared.lane.Trigger.{Trigger}
 use Rattle.model.specs.declared.lane.Verdict.the-variants.{Pass}
 use Rattle.model.specs.declared.lane.Progress.{Progress}
@@ -28,7 +29,7 @@ use Rattle.laws_whole.proofs.Decides.{busy-unmarked, marked-free, marke
 use Rattle.laws_whole.proofs.Kept.{keeps-status, waits-keeps}
 use Rattle.laws_whole.proofs.Changes.{alike-status, low, ignored-same}
 
-module _ (x y : Image) (w : Working) (S : Sound (seenOf (state x w))) (P : Pair x y w) (t : Trigger) (selected : ℕ) where
+module _ (x y : Image) (w : Working) (S : Sound (seenOf (stateWith x w))) (P : Pair x y w) (t : Trigger) (selected : ℕ) where
   late-view : viewOf stagedSet0 y ≡ swap (viewOf stagedSet0 x) (activeOf y)
   late-view = view-same x y (λ i a b. low (passed w) x y (P .alike) i b)
 
@@ -54,10 +55,10 @@ module _ (x y : Image) (w : Working) (S : Sound (seenOf (state x w))) (P : Pair 
   stays l b e = stage-in w (stageAfter t (viewOf stagedSet0 x) w selected) l b ∙ pick-false _ _ e
 
   -- a marked lane's active settings are the same in both runs, and they name its group in the run, which is sound
-  new-fit : Sound (seenOf (marked t (viewOf stagedSet0 x) (state x w) selected)) → (l n : ℕ) (p : Progress) → l < 8
+  new-fit : Sound (seenOf (markedState t (viewOf stagedSet0 x) (stateWith x w) selected)) → (l n : ℕ) (p : Progress) → l < 8
       → isMarked (viewOf stagedSet0 x) w selected l ≡ true → stageAt (withStages w (stageAfter t (viewOf stagedSet0 x) w selected)) l ≡ InProgress p → p .verdict ≡ Pass n
       → Fit (applicationsOf y) (p .group) (of (activeOf y) l)
-  unfolding marked
+  unfolding markedState
   new-fit T l n p b k e q =
       let f : isPassing (stageAt w l) ≡ false = idle-passing (stageAt w l)
       (marked-free (viewOf stagedSet0 x) w selected l l k b (marked-own (viewOf stagedSet0 x) w selected l b k)) in
@@ -66,14 +67,14 @@ module _ (x y : Image) (w : Working) (S : Sound (seenOf (state x w))) (P : Pair 
       rw (
         ← (same-active x y w S P l b f),
         applications-same x y (λ i d. low (passed w) x y (P .alike) i (omega (arith, advertised-between i d))),
-        ← (settings-same 718 x z (K .active)),
+        ← (settings-same activeSet x z (K .active)),
         ← (applications-same x z (K .advertised)),
       )
       (now-fills _ T l n p b e q)
 
-  marked-pair : Sound (seenOf (marked t (viewOf stagedSet0 x) (state x w) selected))
-      → Paired (marked t (viewOf stagedSet0 x) (state x w) selected) (marked t (viewOf stagedSet0 y) (state y w) selected)
-  unfolding marked
+  marked-pair : Sound (seenOf (markedState t (viewOf stagedSet0 x) (stateWith x w) selected))
+      → Paired (markedState t (viewOf stagedSet0 x) (stateWith x w) selected) (markedState t (viewOf stagedSet0 y) (stateWith y w) selected)
+  unfolding markedState
   marked-pair T = record {
     working = workings;
     pair = record {
@@ -87,9 +88,9 @@ module _ (x y : Image) (w : Working) (S : Sound (seenOf (state x w))) (P : Pair 
     };
   }
 
-  pub triggered-pair : Sound (seenOf (triggered t stagedSet0 (state x w) selected))
-      → Paired (triggered t stagedSet0 (state x w) selected) (triggered t stagedSet0 (state y w) selected)
-  unfolding triggered pick
+  pub triggered-pair : Sound (seenOf (triggeredState t stagedSet0 (stateWith x w) selected))
+      → Paired (triggeredState t stagedSet0 (stateWith x w) selected) (triggeredState t stagedSet0 (stateWith y w) selected)
+  unfolding triggeredState pick
   triggered-pair T = split (isIgnored t x)
       (λ e. rw (ignored-same (passed w) x y (P .alike) t, e, pick) (record { working = refl; pair = P }))
       (λ e. rw (ignored-same (passed w) x y (P .alike) t, e, pick) (marked-pair (rw (e, pick) at T)))

@@ -6,11 +6,10 @@ use Prim.Native.Nat.{ℕ, _<_}
 use lib.ListN.{length}
 use Rattle.bits.proofs.Tests.{split, clash}
 use Rattle.bits.proofs.Masks.{mask-ext}
-use Rattle.model.specs.Map.{Image, activeSet}
-use Rattle.model.specs.Lanes.{stageAt, isInProgress, isPassing}
+use Rattle.model.specs.Map.{Image, activeSet, imageLength}
+use Rattle.model.specs.Records.{stageAt, isInProgress, isPassing}
 use Rattle.model.specs.View.{of, applicationIn, appSel, pathId, isUsed, samePath, pathOf, fills, applicationsOf}
-use Rattle.model.specs.Triggers.{State}
-use Rattle.model.specs.Outcome.{state}
+use Rattle.model.specs.State.{State, stateWith}
 use Rattle.model.specs.declared.lane.Verdict.the-variants.{Pass}
 use Rattle.model.specs.declared.lane.Progress.{Progress}
 use Rattle.model.specs.declared.lane.Settings.{Settings}
@@ -47,7 +46,7 @@ Waits y w = (l n : ℕ) (p : Progress) → l < 8 → stageAt w l ≡ InProgress 
 
 -- the image x of a run and the image y of its comparison run, with one working state
 pub record Pair (x y : Image) (w : Working) : Type 0 where
-  pub size : length x ≡ 768
+  pub size : length x ≡ imageLength
   pub alike : Alike (veiled w) x y
   pub waits : Waits y w
 
@@ -56,7 +55,7 @@ pub record Paired (s a : State) : Type 0 where
   pub working : a .working ≡ s .working
   pub pair : Pair (s .image) (a .image) (s .working)
 
-module _ (x y : Image) (w : Working) (S : Sound (seenOf (state x w))) (P : Pair x y w) where
+module _ (x y : Image) (w : Working) (S : Sound (seenOf (stateWith x w))) (P : Pair x y w) where
   -- the active settings of lanes outside passing groups are the same
   pub same-active : (l : ℕ) → l < 8 → isPassing (stageAt w l) ≡ false → of (activeOf x) l ≡ of (activeOf y) l
   same-active l b f = active-at x l b
@@ -65,7 +64,7 @@ module _ (x y : Image) (w : Working) (S : Sound (seenOf (state x w))) (P : Pair 
   -- THE LEMMA, in the run: it is sound ..
   early-stranger : (l m : ℕ) → l < 8 → isPassing (stageAt w l) ≡ false → m < 8 → isPassing (stageAt w m) ≡ true → samePath (activeOf x) l m ≡ false
   early-stranger l m b f bm p = let q : Pass-of (stageAt w m) = passing-of (stageAt w m) p in
-      stranger (seenOf (state x w)) S l m (q .next) (q .record-of) b f bm (q .stage) (q .verdict)
+      stranger (seenOf (stateWith x w)) S l m (q .next) (q .record-of) b f bm (q .stage) (q .verdict)
 
   -- .. and in the comparison run: the lane that the waiting group's DataPathID names is in the group, so it is no id of a path outside
   late-stranger : (l m : ℕ) → l < 8 → isPassing (stageAt w l) ≡ false → m < 8 → isPassing (stageAt w m) ≡ true → samePath (activeOf y) l m ≡ false
@@ -78,7 +77,7 @@ module _ (x y : Image) (w : Working) (S : Sound (seenOf (state x w))) (P : Pair 
           let G = S .grouped m (q .record-of) bm (q .stage) in
           let c = fills-first _ _ (q .record-of .group) m (P .waits m (q .next) (q .record-of) bm (q .stage) (q .verdict) (t .other)) bm (G .own) in
           let first = G .mate (pathId (of (activeOf y) m)) (c .0) (c .1) in
-          home-free (seenOf (state x w)) S l (q .next) (pathId (of (activeOf y) m)) (first .its) b f
+          home-free (seenOf (stateWith x w)) S l (q .next) (pathId (of (activeOf y) m)) (first .its) b f
           (rw (same-active l b f) (t .one)) (rw (same-active l b f) (t .id)) (first .stage) (first .verdict ∙ q .verdict)
 
   -- so the paths of lanes outside passing groups are the same

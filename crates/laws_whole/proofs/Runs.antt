@@ -7,14 +7,13 @@ use Rattle.bits.specs.Choice.{pick}
 use Rattle.bits.proofs.Tests.{split, clash}
 use Rattle.bits.proofs.Places.{image-ext}
 use Rattle.bits.proofs.Loops.{length-tab}
-use Rattle.model.specs.Map.{Image}
+use Rattle.model.specs.Map.{Image, imageLength}
 use Rattle.model.specs.Answers.{isDone}
-use Rattle.model.specs.Triggers.{State}
+use Rattle.model.specs.State.{State, stateWith}
 use Rattle.model.specs.Work.{early, late}
-use Rattle.model.specs.Start.{started}
+use Rattle.model.specs.Start.{startedState}
 use Rattle.model.specs.Refusals.{firstOf, eventRefusals}
-use Rattle.model.specs.Step.{Out, done, refused, answered, step}
-use Rattle.model.specs.Outcome.{state}
+use Rattle.model.specs.Step.{Stepped, doneStep, refusedStep, answeredStep, step}
 use Rattle.model.specs.declared.event.Call.{Call}
 use Rattle.model.specs.declared.event.Event.{Event}
 use Rattle.model.specs.declared.lane.Working.{Working}
@@ -31,7 +30,7 @@ use Rattle.laws_whole.proofs.Events.{hidden-veiled, settled-pair, refus
 -- ---- one step of both runs, given that the run's states are sound
 
 -- what the two steps on an event give, with what goes on inside
-pub record Both (s : State) (c : Call) (o p : Out) : Type 0 where
+pub record Both (s : State) (c : Call) (o p : Stepped) : Type 0 where
   pub answer : o .answer ≡ p .answer
   pub mask : o .mask ≡ p .mask
   pub bytes : Alike (hiddenRead s c) (o .bytes) (p .bytes)
@@ -51,17 +50,17 @@ same-state s a Q = record {
       (of-none (passed (s .working)) i b (λ l hl p. absurd (clash (passing-busy _ p) (q l hl)))));
 }
 
-start-pair : (x : Image) → Paired (started x) (started x)
-unfolding started
+start-pair : (x : Image) → Paired (startedState x) (startedState x)
+unfolding startedState
 start-pair x = record {
   working = refl;
-  pair = record { size = length-tab 768 _; alike = alike-refl _ _; waits = λ l n p b e q. absurd (not-idle (idle-stage l b) e) };
+  pair = record { size = length-tab imageLength _; alike = alike-refl _ _; waits = λ l n p b e q. absurd (not-idle (idle-stage l b) e) };
 }
 
-both-states : (room : ℕ) (e : Event) (x y : Image) (w : Working) (two : ℕ) → Well two (state x w) → Pair x y w
-    → Both (state x w) (e .call) (step early room (state x w) e) (step late room (state y w) e)
-unfolding step answered done refused pick
-both-states room e x y w two T P = split (isDone (firstOf (eventRefusals room (state x w) (e .call))))
+both-states : (room : ℕ) (e : Event) (x y : Image) (w : Working) (two : ℕ) → Well two (stateWith x w) → Pair x y w
+    → Both (stateWith x w) (e .call) (step early room (stateWith x w) e) (step late room (stateWith y w) e)
+unfolding step answeredStep doneStep refusedStep pick
+both-states room e x y w two T P = split (isDone (firstOf (eventRefusals room (stateWith x w) (e .call))))
     (λ d. let C = carried-pair x y w two T P room (e .bytes) (e .call) d in
     rw (← (refusals-same x y w (T .sound) P room (e .call)), d, pick)
     (record { answer = refl; mask = C .mask; bytes = C .bytes; paired = settled-pair _ _ (C .states) }))
@@ -69,7 +68,7 @@ both-states room e x y w two T P = split (isDone (firstOf (eventRefusals room (s
     (record { answer = refl; mask = refl; bytes = alike-refl _ []; paired = record { working = refl; pair = P } }))
 
 pub both-step : (room : ℕ) (e : Event) (s a : State) → Twin s a → Both s (e .call) (step early room s e) (step late room a e)
-both-step room e s a T = subst (λ u. Both s (e .call) (step early room s e) (step late room (state (a .image) u) e)) (sym (T .paired .working))
+both-step room e s a T = subst (λ u. Both s (e .call) (step early room s e) (step late room (stateWith (a .image) u) e)) (sym (T .paired .working))
     (both-states room e (s .image) (a .image) (s .working) (T .two) (T .well) (T .paired .pair))
 
 next-twin : (room : ℕ) (e : Event) (s a : State) → Twin s a → Twin (step early room s e .state) (step late room a e .state)

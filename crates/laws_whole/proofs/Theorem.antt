@@ -5,10 +5,11 @@ use mathlib.Core.List.{List, [], _∷_, map}
 use mathlib.Core.Logic.{_⊎_, inl, inr}
 use Prim.Native.Nat.{ℕ, _+_, _≤_, _<_}
 use lib.ListN.{length, getD}
-use Rattle.model.specs.Map.{Image, laneCount, activeSet}
-use Rattle.model.specs.Lanes.{stageAt, isInProgress}
+use Rattle.model.specs.Map.{Image, activeSet, setLength}
+use Rattle.bits.specs.Sets.{laneCount}
+use Rattle.model.specs.Records.{stageAt, isInProgress}
 use Rattle.model.specs.View.{settingsAt}
-use Rattle.model.specs.Triggers.{State}
+use Rattle.model.specs.State.{State}
 use Rattle.model.specs.Work.{early, late}
 use Rattle.model.specs.Step.{step}
 use Rattle.model.specs.Outcome.{Outcome, startOutcome, stepOutcome}
@@ -16,7 +17,7 @@ use Rattle.model.specs.declared.event.Event.{Event}
 use Rattle.laws.specs.Reading.{readCount}
 use Rattle.laws.specs.Calls.{Called, outcomeAt, outcomes, stateAfter}
 use Rattle.laws.proofs.Reading.{step-reads}
-use Rattle.laws_frames.proofs.Registers.{setLength, settings-at-same}
+use Rattle.laws_frames.proofs.Registers.{settings-at-same}
 use Rattle.laws_sound.specs.Reached.{Accepted, StartDone, reachedBy, along, through}
 use Rattle.laws_sound.proofs.Reached.{start-leaves, start-accepted, still-accepted, call-is-step}
 use Rattle.laws_whole.specs.Whole.{wholeAt, comparedBy, hidden, SameState, SameStep, SameOutcome, Reached, begun, then}

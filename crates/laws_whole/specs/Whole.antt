@@ -8,13 +8,14 @@ use lib.ListN.{length, take, drop}
 use Rattle.bits.specs.Choice.{both}
 use Rattle.bits.specs.Loop.{anyBelow}
 use Rattle.bits.specs.Place.{digit, covers}
-use Rattle.model.specs.Map.{Image, laneCount, settingCount, settingAt, activeSet}
-use Rattle.model.specs.Lanes.{stageAt, isInProgress}
-use Rattle.model.specs.Triggers.{State}
+use Rattle.model.specs.Map.{Image, settingCount, settingAt, activeSet}
+use Rattle.bits.specs.Sets.{laneCount}
+use Rattle.model.specs.Records.{stageAt, isInProgress}
+use Rattle.model.specs.State.{State}
 use Rattle.model.specs.Work.{early, late}
-use Rattle.model.specs.Pages.{placeOf}
-use Rattle.model.specs.Start.{started}
-use Rattle.model.specs.Step.{Out, step}
+use Rattle.model.specs.Pages.{indexOf}
+use Rattle.model.specs.Start.{startedState}
+use Rattle.model.specs.Step.{Stepped, step}
 use Rattle.model.specs.Outcome.{Outcome, startOutcome, stepOutcome}
 use Rattle.model.specs.declared.event.Call.{Call}
 use Rattle.model.specs.declared.event.Call.the-variants.{Write, Read, Work, Hardware, Condition, Sample}
@@ -76,7 +77,7 @@ readAddress (Sample l p) = 0
 
 -- bit b of the k-th byte that the event reads in a state is hidden there
 unfoldable pub hiddenRead : State → Call → ℕ → ℕ → Bool
-hiddenRead s c k b = hidden (s .working) (placeOf (s .image) (readAddress c) + k) b
+hiddenRead s c k b = hidden (s .working) (indexOf (s .image) (readAddress c) + k) b
 
 -- two buffers left of one that was lent: their first n bytes are alike but for excepted bits, and the rest of each is untouched
 pub record SameBuffer (except : ℕ → ℕ → Bool) (n : ℕ) (lent xs ys : List ℕ) : Type 0 where
@@ -95,7 +96,7 @@ pub record SameOutcome (s : State) (c : Called) (o p : Outcome) : Type 0 where
 -- ---- inside: steps that ask for 1, 2 and 3 no more, and the states that they reach from any start
 
 -- two steps on an event, the first from state s, likewise: the bytes that they read are not yet in a buffer
-pub record SameStep (s : State) (c : Call) (o p : Out) : Type 0 where
+pub record SameStep (s : State) (c : Call) (o p : Stepped) : Type 0 where
   pub answer : o .answer ≡ p .answer
   pub mask : o .mask ≡ p .mask
   pub bytes : Alike (hiddenRead s c) (o .bytes) (p .bytes)
@@ -103,5 +104,5 @@ pub record SameStep (s : State) (c : Call) (o p : Out) : Type 0 where
 
 -- the states that the two runs reach from one start by the same events, each read lent a buffer with any room
 pub data Reached : State → State → Type 0 where
-  begun : (x : Image) → Reached (started x) (started x)
+  begun : (x : Image) → Reached (startedState x) (startedState x)
   then : {s a : State} → Reached s a → (room : ℕ) (e : Event) → Reached (step early room s e .state) (step late room a e .state)

@@ -1,9 +1,9 @@
 // The register map in code: where each page and each lane register starts, and which bytes of the image keep a write, are cleared by a read, or are kept by start.
 ghost use mathlib.Core.Path.{_≡_};
-ghost use Prim.Native.Nat.{_≤_};
+ghost use Prim.Native.Nat.{_+_, _≤_};
 ghost use lib.Dec.{leb};
 ghost use Rattle.bits.specs.Choice.{both};
-ghost use Rattle.model.specs.Map.{on, writable, clearing, kept};
+ghost use Rattle.model.specs.Map.{imageLength, pageLength, on, writable, clearing, kept};
 
 // The image: lower memory, then five pages; a page's addresses start at UPPER.
 pub const IMAGE_LENGTH: usize = 768;
@@ -59,24 +59,24 @@ pub const ACTIVE_SET: usize = PAGE_11 + (206 - 128);
 
 pub const PENDING: usize = PAGE_11 + (235 - 128);
 
-// The place in the image of an address of a page.
+// The index in the image of an address of a page.
 pub fn on(page: usize, address: u8) -> usize
-    requires { ⌜ (page ≤ 640) × (128 ≤ address) ⌝ }
+    requires { ⌜ (page + pageLength ≤ imageLength) × (128 ≤ address) ⌝ }
     ensures { λ r. ⌜ r ≡ on page address ⌝ }
 {
     page + ((address - UPPER) as usize)
 }
 
-// Whether a place is one of from .. to.
+// Whether an index is one of from .. to.
 pub fn within(i: usize, from: usize, to: usize) -> bool
     ensures { λ r. ⌜ r ≡ both (leb from i) (leb i to) ⌝ }
 {
     (from <= i) & (i <= to)
 }
 
-// Whether a place is one of the addresses from .. to of a page.
+// Whether an index is one of the addresses from .. to of a page.
 pub fn on_page(i: usize, page: usize, from: u8, to: u8) -> bool
-    requires { ⌜ (page ≤ 640) × (128 ≤ from) × (128 ≤ to) ⌝ }
+    requires { ⌜ (page + pageLength ≤ imageLength) × (128 ≤ from) × (128 ≤ to) ⌝ }
     ensures { λ r. ⌜ r ≡ both (leb (on page from) i) (leb i (on page to)) ⌝ }
 {
     within(i, on(page, from), on(page, to))

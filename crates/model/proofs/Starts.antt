@@ -4,21 +4,21 @@ use mathlib.Core.Bool.{Bool, true, false}
 use native.Mathlib.Omega.{arith}
 use lib.ListN.{getD}
 use Rattle.bits.specs.Choice.{pick}
-use Rattle.model.specs.Map.{Image}
-use Rattle.model.specs.Pages.{pagePlace, findPage, upperStart, selectedStart}
-use Rattle.model.specs.declared.page.PagePlace.{PagePlace}
+use Rattle.model.specs.Map.{Image, imageLength}
+use Rattle.model.specs.Pages.{pageStart, findPage, upperStart, selectedStart}
+use Rattle.model.specs.declared.page.PageStart.{PageStart}
 
 -- a page's 128 bytes lie in upper memory
-abbrev Fits : PagePlace → Type 0
-Fits p = (128 ≤ upperStart p) × (upperStart p + 128 ≤ 768)
+abbrev Fits : PageStart → Type 0
+Fits p = (128 ≤ upperStart p) × (upperStart p + 128 ≤ imageLength)
 
-one-fits : (b : Bool) (p q : PagePlace) → Fits p → Fits q → Fits (pick b p q)
+one-fits : (b : Bool) (p q : PageStart) → Fits p → Fits q → Fits (pick b p q)
 unfolding pick
 one-fits true p q f g = f
 one-fits false p q f g = g
 
-place-fits : (bank page : ℕ) → Fits (pagePlace bank page)
-unfolding pagePlace findPage
+place-fits : (bank page : ℕ) → Fits (pageStart bank page)
+unfolding pageStart findPage
 place-fits bank page =
     one-fits _ _ _ (omega arith, omega arith)
     (one-fits _ _ _ (omega arith, omega arith)
@@ -26,7 +26,7 @@ place-fits bank page =
     (one-fits _ _ _ (omega arith, omega arith)
     (one-fits _ _ _ (omega arith, omega arith) (omega arith, omega arith)))))
 
-pub start-fits : (x : Image) → selectedStart x + 128 ≤ 768
+pub start-fits : (x : Image) → selectedStart x + 128 ≤ imageLength
 unfolding selectedStart
 start-fits x = place-fits (getD x 126 0) (getD x 127 0) .1
 

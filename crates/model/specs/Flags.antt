@@ -1,52 +1,54 @@
 -- Flags: conditions, samples of received power, and the interrupt bit (01 "Paths and flags", "Host accesses").
-use Prim.Native.Nat.{ℕ, _+_, _*_}
+use Prim.Native.Nat.{_+_, _*_}
 use mathlib.Core.Bool.{Bool}
 use lib.Dec.{eqb, ltb}
+use mathlib.Core.List.{[], _∷_}
 use Rattle.bits.specs.Choice.{pick, onlyIf, both}
 use Rattle.bits.specs.Loop.{anyBelow}
 use Rattle.bits.specs.Place.{put, digit}
+use Rattle.bits.specs.Sets.{Lane, LaneSet}
 use Rattle.bits.specs.Word.{word, putWord}
-use Rattle.model.specs.Map.{Image, range, inRanges, flagAt, flagBytes, flagMasks, flagByteCount, interruptBit, receivedPower, highAlarm, lowAlarm, highWarning, lowWarning, highAlarmFlag, lowAlarmFlag, highWarningFlag, lowWarningFlag}
-use Rattle.model.specs.Hardware.{withFlags}
-use mathlib.Core.List.{[], _∷_}
+use Rattle.model.specs.Numbers.{Index, Address, Power, Bit}
+use Rattle.model.specs.Map.{Image, interruptBit, highAlarmLimit, lowAlarmLimit, highWarningLimit, lowWarningLimit, flagMasks, flagBytes, flagByteCount, flagAt, highAlarmFlag, lowAlarmFlag, highWarningFlag, lowWarningFlag, receivedPower, range, inRanges}
+use Rattle.model.specs.Registers.{withFlags}
 
 -- ---- conditions
 
 -- the flag bytes of 11h that a condition may name: FailureTx, LOSTx, CDRLOLTx, AdaptiveInputEqFailTx, LOSRx, CDRLOLRx
-unfoldable pub isConditionFlag : ℕ → Bool
+unfoldable pub isConditionFlag : Address → Bool
 isConditionFlag = inRanges (range 135 138 ∷ range 147 148 ∷ [])
 
 -- a condition sets the mask's bits once
-unfoldable pub conditionSet : ℕ → ℕ → Image → Image
-conditionSet flag mask x = withFlags flag mask x
+unfoldable pub conditionImage : Address → LaneSet → Image → Image
+conditionImage flag mask x = withFlags flag mask x
 
 -- ---- samples
 
 -- a limit or a power: two bytes, the high byte first, in 0.1 µW
-abbrev pub power : Image → ℕ → ℕ
+abbrev pub power : Image → Index → Power
 power x at = word 2 x at
 
-unfoldable pub raised : Bool → ℕ → ℕ → Image → Image
-raised test flag l x = onlyIf test (λ y. put y (flagAt flag l) 1) x
+unfoldable pub raisedImage : Bool → Address → Lane → Image → Image
+raisedImage test flag l x = onlyIf test (λ y. put y (flagAt flag l) 1) x
 
 -- the sample is stored, and compared with the four limits
-unfoldable pub sampled : ℕ → ℕ → Image → Image
-sampled l p x =
-    raised (ltb p (power x lowWarning)) lowWarningFlag l
-    (raised (ltb (power x highWarning) p) highWarningFlag l
-    (raised (ltb p (power x lowAlarm)) lowAlarmFlag l
-    (raised (ltb (power x highAlarm) p) highAlarmFlag l
+unfoldable pub sampledImage : Lane → Power → Image → Image
+sampledImage l p x =
+    raisedImage (ltb p (power x lowWarningLimit)) lowWarningFlag l
+    (raisedImage (ltb (power x highWarningLimit) p) highWarningFlag l
+    (raisedImage (ltb p (power x lowAlarmLimit)) lowAlarmFlag l
+    (raisedImage (ltb (power x highAlarmLimit) p) highAlarmFlag l
     (putWord 2 x (receivedPower + 2 * l) p))))
 
 -- ---- lower 3.0
 
 -- flag byte k has a bit b that is 1 and whose mask bit is 0
-unfoldable pub isUnmasked : Image → ℕ → ℕ → Bool
+unfoldable pub isUnmasked : Image → Index → Bit → Bool
 isUnmasked x k b = both (eqb (digit x (flagBytes + k) b) 1) (eqb (digit x (flagMasks + k) b) 0)
 
 unfoldable pub interrupts : Image → Bool
 interrupts x = anyBelow flagByteCount (λ k. anyBelow 8 (λ b. isUnmasked x k b))
 
 -- lower 3.0 is 0 exactly when an unmasked flag bit is 1
-unfoldable pub settled : Image → Image
-settled x = put x interruptBit (pick (interrupts x) 0 1)
+unfoldable pub settledImage : Image → Image
+settledImage x = put x interruptBit (pick (interrupts x) 0 1)

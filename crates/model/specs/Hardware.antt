@@ -1,39 +1,36 @@
 -- A hardware event on a path (01 "Paths and flags"; 002 table 6-18).
-use Prim.Native.Nat.{ℕ}
 use mathlib.Core.Bool.{Bool, false, not}
 use lib.Dec.{eqb}
 use Rattle.bits.specs.Choice.{pick, onlyIf, either}
-use Rattle.bits.specs.Loop.{each}
-use Rattle.bits.specs.Place.{get, put}
-use Rattle.bits.specs.Sets.{has}
-use Rattle.bits.specs.declared.Place.{Place}
-use Rattle.model.specs.Map.{Image, laneCount, activeSet, stateAt, pendingAt, deinitAt, outputDisableAt, squelchForceAt, flagAt, stateChanged}
-use Rattle.model.specs.PathStates.{stateOf, codeOf, resting}
+use Rattle.bits.specs.Place.{get}
+use Rattle.bits.specs.Sets.{Lane, LaneSet, has, someIn}
+use Rattle.model.specs.Map.{Image, deinitAt, outputDisableAt, squelchForceAt, stateAt, stateChangedFlag, activeSet, pendingAt}
+use Rattle.model.specs.PathStates.{codeOf, stateOf, resting}
+use Rattle.model.specs.Registers.{withPending, withPathState, withFlags}
 use Rattle.model.specs.View.{settingsOf, pathOf}
-use Rattle.model.specs.Groups.{someIn}
-use Rattle.model.specs.Work.{withPending}
+use Rattle.bits.specs.declared.Place.{Place}
 use Rattle.model.specs.declared.path.PathState.{PathState}
 use Rattle.model.specs.declared.path.Signals.{Signals}
 use Rattle.model.specs.declared.path.PathState.the-variants.{Reserved, Deactivated, Init, Deinit, Activated, TxTurnOn, TxTurnOff, Initialized}
 
 -- a lane of the set has its bit 1 in a register of one bit a lane
-unfoldable pub someBit : Image → (ℕ → Place) → ℕ → Bool
-someBit x place g = someIn g (λ m. eqb (get x (place m)) 1)
+unfoldable pub someBit : Image → (Lane → Place) → LaneSet → Bool
+someBit x at g = someIn g (λ m. eqb (get x (at m)) 1)
 
 -- S: a DPDeinit bit of the path's lanes is 1
-unfoldable pub toDeinit : Image → ℕ → Bool
+unfoldable pub toDeinit : Image → LaneSet → Bool
 toDeinit x g = someBit x deinitAt g
 
 -- R: S, or a DPInitPending bit of the path's lanes is 1
-unfoldable pub toReinit : Image → ℕ → Bool
+unfoldable pub toReinit : Image → LaneSet → Bool
 toReinit x g = either (toDeinit x g) (someBit x pendingAt g)
 
 -- D: R, or an OutputDisableTx or OutputSquelchForceTx bit of the path's lanes is 1 (Req 06; 002 equation 6-12)
-unfoldable pub toDeactivate : Image → ℕ → Bool
+unfoldable pub toDeactivate : Image → LaneSet → Bool
 toDeactivate x g = either (toReinit x g) (either (someBit x outputDisableAt g) (someBit x squelchForceAt g))
 
 -- the signals of a path
-unfoldable pub signalsOf : Image → ℕ → Signals
+unfoldable pub signalsOf : Image → LaneSet → Signals
 signalsOf x g = record { deinit = toDeinit x g; reinit = toReinit x g; deactivate = toDeactivate x g }
 
 -- the path table: the state that follows, by the path's signals (01, amended by Req 06 where it asks for D)
@@ -50,29 +47,23 @@ nextState Deinit by = Deactivated
 unfoldable pub isState : PathState → PathState → Bool
 isState a b = eqb (codeOf a) (codeOf b)
 
-unfoldable pub withState : ℕ → PathState → Image → Image
-withState g to x = each (has g) (λ l y. put y (stateAt l) (codeOf to)) laneCount x
-
-unfoldable pub withFlags : ℕ → ℕ → Image → Image
-withFlags address g x = each (has g) (λ l y. put y (flagAt address l) 1) laneCount x
-
 -- DPInitialized reached from DPInit: what was pending is done
-unfoldable pub initialized : PathState → PathState → Bool
-initialized from to = pick (isState from Init) (isState to Initialized) false
+unfoldable pub isInitialized : PathState → PathState → Bool
+isInitialized from to = pick (isState from Init) (isState to Initialized) false
 
 -- the path g enters a state: a resting state sets the lanes' DPStateChanged flags
-unfoldable pub entered : ℕ → PathState → PathState → Image → Image
-entered g from to x =
-    onlyIf (resting to) (withFlags stateChanged g)
-    (onlyIf (initialized from to) (withPending (has g) 0) (withState g to x))
+unfoldable pub enteredImage : LaneSet → PathState → PathState → Image → Image
+enteredImage g from to x =
+    onlyIf (resting to) (withFlags stateChangedFlag g)
+    (onlyIf (isInitialized from to) (withPending (has g) 0) (withPathState g to x))
 
 -- a path that stays enters nothing
-unfoldable pub moved : ℕ → PathState → PathState → Image → Image
-moved g from to x = onlyIf (not (isState from to)) (entered g from to) x
+unfoldable pub movedImage : LaneSet → PathState → PathState → Image → Image
+movedImage g from to x = onlyIf (not (isState from to)) (enteredImage g from to) x
 
-unfoldable pub movedPath : Image → ℕ → PathState → Image
-movedPath x g from = moved g from (nextState from (signalsOf x g)) x
+unfoldable pub movedPathImage : Image → LaneSet → PathState → Image
+movedPathImage x g from = movedImage g from (nextState from (signalsOf x g)) x
 
 -- a hardware event on the path of a used lane
-unfoldable pub hardwareMoved : Image → ℕ → Image
-hardwareMoved x l = movedPath x (pathOf (settingsOf activeSet x) l) (stateOf (get x (stateAt l)))
+unfoldable pub hardwareImage : Image → Lane → Image
+hardwareImage x l = movedPathImage x (pathOf (settingsOf activeSet x) l) (stateOf (get x (stateAt l)))

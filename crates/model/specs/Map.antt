@@ -1,41 +1,46 @@
--- The register map: every address once, by name (01 "The module we ship"; 002 chapter 8). An address of a page is its place in the image.
-use Prim.Native.Nat.{ℕ, _+_, _-_}
+-- The register map: every address once, by name (01 "The module we ship"; 002 chapter 8). A register is named by its index in the image; where a host names
+-- it by its address on a page, its name ends in Flag.
+use Prim.Native.Nat.{_+_, _-_}
 use mathlib.Core.Bool.{Bool, false}
-use mathlib.Core.List.{List, [], _∷_}
+use Prim.Native.String.{String}
+use mathlib.Core.List.{List, [], _∷_, map}
 use lib.Dec.{leb}
-use lib.ListN.{getD}
+use lib.ListN.{length, getD}
 use Rattle.bits.specs.Choice.{both, either}
 use Rattle.bits.specs.Lane.{laneField}
+use Rattle.bits.specs.Sets.{Lane}
+use Rattle.model.specs.Numbers.{Bytes, Count, Index, Address, SettingIndex}
 use Rattle.bits.specs.declared.Place.{Place}
 
 -- the lent image (01): lower memory and five pages of 128 bytes
 abbrev pub Image : Type 0
-Image = List ℕ
+Image = Bytes
 
-abbrev pub imageLength : ℕ
+abbrev pub imageLength : Count
 imageLength = 768
 
-abbrev pub laneCount : ℕ
-laneCount = 8
+-- the bytes of lower memory, and of a page
+abbrev pub pageLength : Count
+pageLength = 128
 
 -- where each page's upper bytes start in the image
-abbrev pub page00 : ℕ
+abbrev pub page00 : Index
 page00 = 128
 
-abbrev pub page01 : ℕ
+abbrev pub page01 : Index
 page01 = 256
 
-abbrev pub page02 : ℕ
+abbrev pub page02 : Index
 page02 = 384
 
-abbrev pub page10 : ℕ
+abbrev pub page10 : Index
 page10 = 512
 
-abbrev pub page11 : ℕ
+abbrev pub page11 : Index
 page11 = 640
 
--- the place in the image of address a, 128 to 255, of a page
-abbrev pub on : ℕ → ℕ → ℕ
+-- the index in the image of address a, 128 to 255, of a page
+abbrev pub on : Index → Address → Index
 on page a = page + (a - 128)
 
 -- ---- lower memory
@@ -49,21 +54,21 @@ abbrev pub steppedBit : Place
 steppedBit = record { byte = 2; shift = 6; width = 1 }
 
 -- byte 3: the module's state, and in bit 0 InterruptDeasserted (002 table 8-6)
-abbrev pub moduleState : ℕ
+abbrev pub moduleState : Index
 moduleState = 3
 
 abbrev pub interruptBit : Place
 interruptBit = record { byte = moduleState; shift = 0; width = 1 }
 
 -- 86 on: the descriptors of Applications 1 to 8, four bytes each (002 table 8-23)
-abbrev pub descriptors : ℕ
+abbrev pub descriptors : Index
 descriptors = 86
 
 -- 126 BankSelect, 127 PageSelect (002 section 8.2.15)
-abbrev pub bankSelect : ℕ
+abbrev pub bankSelect : Index
 bankSelect = 126
 
-abbrev pub pageSelect : ℕ
+abbrev pub pageSelect : Index
 pageSelect = 127
 
 -- ---- page 01h: limits of the signal integrity settings (002 table 8-49)
@@ -85,128 +90,163 @@ postLimit = record { byte = on page01 154; shift = 4; width = 4 }
 -- ---- page 01h: the list of Applications goes on
 
 -- 223 on: the descriptors of Applications 9 to 15, four bytes each (002 table 8-59)
-abbrev pub moreDescriptors : ℕ
+abbrev pub moreDescriptors : Index
 moreDescriptors = on page01 223
 
 -- ---- page 02h: received power limits, two bytes each, in 0.1 µW (002 table 8-63)
-abbrev pub highAlarm : ℕ
-highAlarm = on page02 192
+abbrev pub highAlarmLimit : Index
+highAlarmLimit = on page02 192
 
-abbrev pub lowAlarm : ℕ
-lowAlarm = on page02 194
+abbrev pub lowAlarmLimit : Index
+lowAlarmLimit = on page02 194
 
-abbrev pub highWarning : ℕ
-highWarning = on page02 196
+abbrev pub highWarningLimit : Index
+highWarningLimit = on page02 196
 
-abbrev pub lowWarning : ℕ
-lowWarning = on page02 198
+abbrev pub lowWarningLimit : Index
+lowWarningLimit = on page02 198
 
 -- ---- page 10h: controls
 
 -- 128: DPDeinit, a bit a lane (002 table 8-68)
-abbrev pub deinitAt : ℕ → Place
+abbrev pub deinitAt : Lane → Place
 deinitAt l = laneField (on page10 128) 1 l
 
 -- 130 OutputDisableTx, 132 OutputSquelchForceTx: a bit a lane that mutes its output (002 table 8-69)
-abbrev pub outputDisableAt : ℕ → Place
+abbrev pub outputDisableAt : Lane → Place
 outputDisableAt l = laneField (on page10 130) 1 l
 
-abbrev pub squelchForceAt : ℕ → Place
+abbrev pub squelchForceAt : Lane → Place
 squelchForceAt l = laneField (on page10 132) 1 l
 
 -- 143, 144: the triggers of Staged Control Set 0 (002 table 8-70)
-abbrev pub applyDPInit : ℕ
+abbrev pub applyDPInit : Index
 applyDPInit = on page10 143
 
-abbrev pub applyImmediate : ℕ
+abbrev pub applyImmediate : Index
 applyImmediate = on page10 144
 
 -- 145 on: Staged Control Set 0 (002 tables 8-71 to 8-74)
-abbrev pub stagedSet0 : ℕ
+abbrev pub stagedSet0 : Index
 stagedSet0 = on page10 145
 
 -- 213 on: the masks, one for each flag byte, 79 above it (01; 002 table 8-81)
-abbrev pub flagMasks : ℕ
+abbrev pub flagMasks : Index
 flagMasks = on page10 213
 
 -- ---- page 11h: status
 
 -- 128-131: DPState, a nibble a lane (002 table 8-83)
-abbrev pub stateAt : ℕ → Place
-stateAt l = laneField (on page11 128) 4 l
+abbrev pub stateBytes : Index
+stateBytes = on page11 128
+
+abbrev pub stateAt : Lane → Place
+stateAt l = laneField stateBytes 4 l
 
 -- 134-153: the flag bytes, a bit a lane (002 tables 8-86 to 8-88)
-abbrev pub flagBytes : ℕ
+abbrev pub flagBytes : Index
 flagBytes = on page11 134
 
-abbrev pub flagByteCount : ℕ
+abbrev pub flagByteCount : Count
 flagByteCount = 20
 
 -- a lane's bit of the flag byte at an address of page 11h
-abbrev pub flagAt : ℕ → ℕ → Place
+abbrev pub flagAt : Address → Lane → Place
 flagAt address l = laneField (on page11 address) 1 l
 
--- the flag bytes that events set: DPStateChanged, and the four of received power
-abbrev pub stateChanged : ℕ
-stateChanged = 134
+-- the flag bytes that events set, by their address on 11h: DPStateChanged, and the four of received power
+abbrev pub stateChangedFlag : Address
+stateChangedFlag = 134
 
-abbrev pub highAlarmFlag : ℕ
+abbrev pub highAlarmFlag : Address
 highAlarmFlag = 149
 
-abbrev pub lowAlarmFlag : ℕ
+abbrev pub lowAlarmFlag : Address
 lowAlarmFlag = 150
 
-abbrev pub highWarningFlag : ℕ
+abbrev pub highWarningFlag : Address
 highWarningFlag = 151
 
-abbrev pub lowWarningFlag : ℕ
+abbrev pub lowWarningFlag : Address
 lowWarningFlag = 152
 
 -- 186 on: received power, two bytes a lane (002 table 8-89)
-abbrev pub receivedPower : ℕ
+abbrev pub receivedPower : Index
 receivedPower = on page11 186
 
 -- 202-205: ConfigStatus, a nibble a lane (002 table 8-90)
-abbrev pub statusAt : ℕ → Place
-statusAt l = laneField (on page11 202) 4 l
+abbrev pub statusBytes : Index
+statusBytes = on page11 202
 
--- 206 on: the active settings, laid out as a staged set (002 tables 8-93 to 8-95)
-abbrev pub activeSet : ℕ
-activeSet = on page11 206
+abbrev pub statusAt : Lane → Place
+statusAt l = laneField statusBytes 4 l
+
+-- 206 on: the active settings, laid out as a staged set 61 addresses below, on 10h (01 "Work step"; 002 tables 8-93 to 8-95)
+abbrev pub activeSet : Index
+activeSet = on page11 (145 + 61)
 
 -- 235: DPInitPending, a bit a lane (002 table 8-96)
-abbrev pub pendingAt : ℕ → Place
-pendingAt l = laneField (on page11 235) 1 l
+abbrev pub pendingByte : Index
+pendingByte = on page11 235
 
--- ---- the settings of a set, from its base on: DPConfig, AdaptiveInputEqEnableTx, input EQ, CDREnableTx, CDREnableRx, pre-cursor, post-cursor, amplitude
-abbrev pub settingCount : ℕ
-settingCount = 8
+abbrev pub pendingAt : Lane → Place
+pendingAt l = laneField pendingByte 1 l
 
-abbrev pub settingOffsets : List ℕ
-settingOffsets = 0 ∷ 8 ∷ 11 ∷ 15 ∷ 16 ∷ 17 ∷ 21 ∷ 25 ∷ []
+-- ---- the settings of a set
 
-abbrev pub settingWidths : List ℕ
-settingWidths = 8 ∷ 1 ∷ 4 ∷ 1 ∷ 1 ∷ 4 ∷ 4 ∷ 4 ∷ []
+-- a setting of a lane: its name in 002, where its bytes begin in a set, and its width in bits
+pub record Setting : Type 0 where
+  pub name : String
+  pub offset : Count
+  pub width : Count
+
+abbrev pub setting : String → Count → Count → Setting
+setting name offset width = record { name = name; offset = offset; width = width }
+
+abbrev pub settings : List Setting
+settings =
+    setting "DPConfig" 0 8
+    ∷ setting "AdaptiveInputEqEnableTx" 8 1
+    ∷ setting "FixedInputEqTargetTx" 11 4
+    ∷ setting "CDREnableTx" 15 1
+    ∷ setting "CDREnableRx" 16 1
+    ∷ setting "OutputEqPreCursorTargetRx" 17 4
+    ∷ setting "OutputEqPostCursorTargetRx" 21 4
+    ∷ setting "OutputAmplitudeTargetRx" 25 4
+    ∷ []
+
+abbrev pub settingCount : Count
+settingCount = length settings
+
+-- the bytes from a set's base to its last setting's end
+abbrev pub setLength : Count
+setLength = 29
+
+abbrev pub settingOffsets : List Count
+settingOffsets = map (λ row. row .offset) settings
+
+abbrev pub settingWidths : List Count
+settingWidths = map (λ row. row .width) settings
 
 -- the place of lane l's setting k in the set at a base
-unfoldable pub settingAt : ℕ → ℕ → ℕ → Place
+unfoldable pub settingAt : Index → SettingIndex → Lane → Place
 settingAt base k l = laneField (base + getD settingOffsets k 0) (getD settingWidths k 0) l
 
 -- ---- what the host and start may do where
 
 -- a range of the image, both ends included
 pub record Range : Type 0 where
-  pub from : ℕ
-  pub to : ℕ
+  pub from : Index
+  pub to : Index
 
-abbrev pub range : ℕ → ℕ → Range
+abbrev pub range : Index → Index → Range
 range a b = record { from = a; to = b }
 
 -- addresses a to b of a page
-abbrev pub rangeOn : ℕ → ℕ → ℕ → Range
+abbrev pub rangeOn : Index → Address → Address → Range
 rangeOn page a b = record { from = on page a; to = on page b }
 
-unfoldable pub inRanges : List Range → ℕ → Bool
+unfoldable pub inRanges : List Range → Index → Bool
 inRanges [] i = false
 inRanges (r ∷ rs) i = either (both (leb (r .from) i) (leb i (r .to))) (inRanges rs i)
 
@@ -216,19 +256,19 @@ writableRanges =
     range 31 36 ∷ range bankSelect bankSelect ∷ rangeOn page10 128 132 ∷ rangeOn page10 137 139 ∷ rangeOn page10 145 153
     ∷ rangeOn page10 156 173 ∷ rangeOn page10 213 232 ∷ []
 
-unfoldable pub writable : ℕ → Bool
+unfoldable pub writable : Index → Bool
 writable = inRanges writableRanges
 
 -- bytes that a read clears (01 "Host accesses")
 abbrev pub clearedRanges : List Range
 clearedRanges = range 8 9 ∷ rangeOn page11 134 153 ∷ []
 
-unfoldable pub clearing : ℕ → Bool
+unfoldable pub clearing : Index → Bool
 clearing = inRanges clearedRanges
 
 -- bytes that start keeps (01 "Start")
 abbrev pub keptRanges : List Range
 keptRanges = range 0 2 ∷ range 39 40 ∷ range 85 117 ∷ rangeOn page00 128 255 ∷ rangeOn page01 128 255 ∷ rangeOn page02 128 255 ∷ []
 
-unfoldable pub kept : ℕ → Bool
+unfoldable pub kept : Index → Bool
 kept = inRanges keptRanges

@@ -1,19 +1,20 @@
 -- Page selection (01 "Host accesses").
-use Prim.Native.Nat.{ℕ, _+_, _-_}
+use Prim.Native.Nat.{_+_, _-_}
 use mathlib.Core.Bool.{Bool, true, false}
 use mathlib.Core.List.{List, [], _∷_}
 use lib.Dec.{eqb, ltb}
 use lib.ListN.{getD, set}
 use Rattle.bits.specs.Choice.{pick, both, implies}
+use Rattle.model.specs.Numbers.{Index, Address, PageNumber, Bank}
 use Rattle.model.specs.Map.{Image, page00, page01, page02, page10, page11, bankSelect, pageSelect}
-use Rattle.model.specs.declared.page.PagePlace.{PagePlace}
-use Rattle.model.specs.declared.page.PagePlace.the-variants.{Unsupported, At}
+use Rattle.model.specs.declared.page.PageStart.{PageStart}
+use Rattle.model.specs.declared.page.PageStart.the-variants.{Unsupported, At}
 
 -- a page that the module has: its number, whether it needs bank 0, and where it starts in the image
 pub record Page : Type 0 where
-  pub number : ℕ
+  pub number : PageNumber
   pub banked : Bool
-  pub start : ℕ
+  pub start : Index
 
 abbrev pub pages : List Page
 pages =
@@ -25,30 +26,30 @@ pages =
     ∷ []
 
 -- the page of a number, in a bank
-unfoldable pub findPage : List Page → ℕ → ℕ → PagePlace
+unfoldable pub findPage : List Page → Bank → PageNumber → PageStart
 findPage [] bank page = Unsupported
 findPage (p ∷ ps) bank page =
     pick (both (eqb page (p .number)) (implies (p .banked) (eqb bank 0))) (At (p .start)) (findPage ps bank page)
 
-unfoldable pub pagePlace : ℕ → ℕ → PagePlace
-pagePlace bank page = findPage pages bank page
+unfoldable pub pageStart : Bank → PageNumber → PageStart
+pageStart bank page = findPage pages bank page
 
 -- where the upper half starts: on the selected page, or on page 00h where it is not supported
-abbrev pub upperStart : PagePlace → ℕ
+abbrev pub upperStart : PageStart → Index
 upperStart Unsupported = page00
 upperStart (At start) = start
 
-unfoldable pub selectedStart : Image → ℕ
-selectedStart x = upperStart (pagePlace (getD x bankSelect 0) (getD x pageSelect 0))
+unfoldable pub selectedStart : Image → Index
+selectedStart x = upperStart (pageStart (getD x bankSelect 0) (getD x pageSelect 0))
 
--- the place in the image of an address that a host names
-unfoldable pub placeOf : Image → ℕ → ℕ
-placeOf x address = pick (ltb address 128) address (selectedStart x + (address - 128))
+-- the index in the image of an address that a host names
+unfoldable pub indexOf : Image → Address → Index
+indexOf x address = pick (ltb address 128) address (selectedStart x + (address - 128))
 
 -- a byte written to 127: a page that is not supported resets 126 and 127
-abbrev pub withPage : PagePlace → ℕ → Image → Image
+abbrev pub withPage : PageStart → PageNumber → Image → Image
 withPage Unsupported page x = set (set x bankSelect 0) pageSelect 0
 withPage (At start) page x = set x pageSelect page
 
-unfoldable pub pageSelected : ℕ → Image → Image
-pageSelected page x = withPage (pagePlace (getD x bankSelect 0) page) page x
+unfoldable pub selectedImage : PageNumber → Image → Image
+selectedImage page x = withPage (pageStart (getD x bankSelect 0) page) page x

@@ -1,12 +1,12 @@
 -- The states of a path and their codes (01 "Paths and flags"; 002 table 8-84).
-use Prim.Native.Nat.{ℕ}
 use mathlib.Core.Bool.{Bool, true, false}
 use lib.Dec.{eqb}
 use Rattle.bits.specs.Choice.{pick}
+use Rattle.model.specs.Numbers.{Code}
 use Rattle.model.specs.declared.path.PathState.{PathState}
 use Rattle.model.specs.declared.path.PathState.the-variants.{Reserved, Deactivated, Init, Deinit, Activated, TxTurnOn, TxTurnOff, Initialized}
 
-abbrev pub codeOf : PathState → ℕ
+abbrev pub codeOf : PathState → Code
 codeOf Reserved = 0
 codeOf Deactivated = 1
 codeOf Init = 2
@@ -16,7 +16,7 @@ codeOf TxTurnOn = 5
 codeOf TxTurnOff = 6
 codeOf Initialized = 7
 
-unfoldable pub stateOf : ℕ → PathState
+unfoldable pub stateOf : Code → PathState
 stateOf n =
     pick (eqb n 1) Deactivated
     (pick (eqb n 2) Init

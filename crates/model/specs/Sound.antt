@@ -1,5 +1,5 @@
 -- Soundness, the five conditions (a) to (e), as a test (01, below the refusal list).
-use Prim.Native.Nat.{ℕ, _^_}
+use Prim.Native.Nat.{_^_}
 use mathlib.Core.Bool.{Bool, true, false, not}
 use mathlib.Core.List.{List}
 use lib.Dec.{eqb, leb, ltb}
@@ -7,16 +7,16 @@ use lib.ListN.{getD}
 use Rattle.bits.specs.Choice.{both, either, implies, same}
 use Rattle.bits.specs.Loop.{tab, allBelow}
 use Rattle.bits.specs.Place.{get}
-use Rattle.bits.specs.Sets.{has, nextIn}
-use Rattle.model.specs.Map.{Image, laneCount, statusAt, pendingAt, stagedSet0, settingCount, settingWidths}
+use Rattle.bits.specs.Sets.{Lane, LaneSet, laneCount, has, nextIn, firstIn, someIn, everyIn}
+use Rattle.model.specs.Numbers.{Code}
+use Rattle.model.specs.Map.{Image, stagedSet0, statusAt, pendingAt, settings, settingCount, settingWidths}
 use Rattle.model.specs.Statuses.{inProgress}
 use Rattle.model.specs.PathStates.{stateOf, resting}
-use Rattle.model.specs.Lanes.{stageAt, isInProgress, isPassing, heldIn}
-use Rattle.model.specs.View.{View, viewOf, of, stateIn, applicationIn, appSel, pathId, isUsed, samePath, pathOf, fills, settingValues}
-use Rattle.model.specs.Groups.{firstIn, someIn, everyIn}
+use Rattle.model.specs.Records.{stageAt, isInProgress, isPassing, heldIn}
+use Rattle.model.specs.State.{State}
+use Rattle.model.specs.View.{appSel, pathId, settingValues, View, viewOf, of, stateIn, applicationIn, isUsed, samePath, pathOf, fills}
 use Rattle.model.specs.Verdicts.{deactivated}
-use Rattle.model.specs.Triggers.{State}
-use Rattle.model.specs.Work.{written, isRelease}
+use Rattle.model.specs.Work.{writtenSettings, isRelease}
 use Rattle.model.specs.declared.lane.Settings.{Settings}
 use Rattle.model.specs.declared.lane.Trigger.{Trigger}
 use Rattle.model.specs.declared.lane.Trigger.the-variants.{DpInit, Immediate}
@@ -30,7 +30,7 @@ use Rattle.model.specs.declared.application.Lookup.{Lookup}
 
 -- ---- (a) ConfigStatus is Ch exactly for lanes in progress
 
-unfoldable pub statusTells : Image → Working → ℕ → Bool
+unfoldable pub statusTells : Image → Working → Lane → Bool
 statusTells x w l = same (eqb (get x (statusAt l)) inProgress) (isInProgress (stageAt w l))
 
 -- ---- (b) lanes of one group agree, the group holds exactly them, and what their records hold is possible
@@ -58,11 +58,11 @@ unfoldable pub settingsFit : Settings → Bool
 settingsFit h = allBelow settingCount (λ k. ltb (getD (settingValues h) k 0) (2 ^ getD settingWidths k 0))
 
 -- a rejection's code is 2 to 7; a pass's next lane is one of the group or the end
-unfoldable pub verdictFits : ℕ → Verdict → Bool
+unfoldable pub verdictFits : LaneSet → Verdict → Bool
 verdictFits g (Reject code) = both (leb 2 code) (leb code 7)
 verdictFits g (Pass n) = either (eqb n laneCount) (both (ltb n laneCount) (has g n))
 
-unfoldable pub stageFits : Working → ℕ → Stage → Bool
+unfoldable pub stageFits : Working → Lane → Stage → Bool
 stageFits w l Idle = true
 stageFits w l (InProgress p) =
     both (both (has (p .group) l) (everyIn (p .group) (λ m. agrees p (stageAt w m))))
@@ -71,24 +71,24 @@ stageFits w l (InProgress p) =
 -- ---- whole paths, of any settings
 
 -- the lanes that pass the test share lane l's AppSel, not 0, and its DataPathID
-unfoldable pub share : List Settings → (ℕ → Bool) → ℕ → Bool
+unfoldable pub share : List Settings → (Lane → Bool) → Lane → Bool
 share settings c l =
     both (isUsed (of settings l))
     (allBelow laneCount (λ m. implies (c m)
     (both (eqb (appSel (of settings m)) (appSel (of settings l))) (eqb (pathId (of settings m)) (pathId (of settings l))))))
 
 -- and their whole path is the set g
-unfoldable pub makePath : List Lookup → List Settings → (ℕ → Bool) → ℕ → ℕ → Bool
+unfoldable pub makePath : List Lookup → List Settings → (Lane → Bool) → Lane → LaneSet → Bool
 makePath applications settings c l g =
     both (share settings c l) (fills (applicationIn applications (appSel (of settings l))) (pathId (of settings l)) g)
 
 -- the lanes of a set agree on lane l's state
-unfoldable pub agreeOnState : List ℕ → ℕ → ℕ → Bool
+unfoldable pub agreeOnState : List Code → LaneSet → Lane → Bool
 agreeOnState states g l = everyIn g (λ m. eqb (stateIn states m) (stateIn states l))
 
 -- ---- (c) a used lane outside a passing group lies in a whole path whose lanes agree on a state of 1 to 7
 
-unfoldable pub inWholePath : View → ℕ → Bool
+unfoldable pub inWholePath : View → Lane → Bool
 inWholePath v l =
     both (makePath (v .applications) (v .active) (samePath (v .active) l) l (pathOf (v .active) l))
     (both (agreeOnState (v .states) (pathOf (v .active) l) l)
@@ -96,25 +96,25 @@ inWholePath v l =
 
 -- ---- (d) an unused lane outside a passing group is DPDeactivated with nothing pending
 
-unfoldable pub isAtRest : Image → View → ℕ → Bool
+unfoldable pub isAtRest : Image → View → Lane → Bool
 isAtRest x v l = both (eqb (stateIn (v .states) l) deactivated) (eqb (get x (pendingAt l)) 0)
 
-unfoldable pub outsidePassing : Image → View → Working → ℕ → Bool
+unfoldable pub outsidePassing : Image → View → Working → Lane → Bool
 outsidePassing x v w l =
     both (implies (isUsed (of (v .active) l)) (inWholePath v l)) (implies (not (isUsed (of (v .active) l))) (isAtRest x v l))
 
 -- ---- (e) a passing group
 
 -- the settings held for all lanes
-unfoldable pub heldsOf : Working → List Settings
-heldsOf w = tab laneCount (λ l. heldIn (stageAt w l))
+unfoldable pub heldSettingsOf : Working → List Settings
+heldSettingsOf w = tab laneCount (λ l. heldIn (stageAt w l))
 
 -- it is a release, or its held settings make a whole path of exactly its lanes
-unfoldable pub hasPurpose : View → Working → ℕ → Bool
-hasPurpose v w g = either (isRelease w g) (makePath (v .applications) (heldsOf w) (has g) (firstIn g) g)
+unfoldable pub hasPurpose : View → Working → LaneSet → Bool
+hasPurpose v w g = either (isRelease w g) (makePath (v .applications) (heldSettingsOf w) (has g) (firstIn g) g)
 
 -- its lanes agree on state 1, 4 or 7, on 1 for a release
-unfoldable pub rests : View → Working → ℕ → Bool
+unfoldable pub rests : View → Working → LaneSet → Bool
 rests v w g =
     both (agreeOnState (v .states) g (firstIn g))
     (both (resting (stateOf (stateIn (v .states) (firstIn g))))
@@ -124,20 +124,20 @@ unfoldable pub sameSettings : Settings → Settings → Bool
 sameSettings h k = allBelow settingCount (λ j. eqb (getD (settingValues h) j 0) (getD (settingValues k) j 0))
 
 -- the lanes before the next one hold what the copying writes
-unfoldable pub holdsCopied : View → Working → ℕ → ℕ → Bool
-holdsCopied v w g n = everyIn g (λ m. implies (ltb m n) (sameSettings (of (v .active) m) (written (heldIn (stageAt w m)))))
+unfoldable pub holdsCopied : View → Working → LaneSet → Lane → Bool
+holdsCopied v w g n = everyIn g (λ m. implies (ltb m n) (sameSettings (of (v .active) m) (writtenSettings (heldIn (stageAt w m)))))
 
 -- the rest of its lanes
-unfoldable pub notCopied : ℕ → ℕ → ℕ → Bool
+unfoldable pub notCopied : LaneSet → Lane → Lane → Bool
 notCopied g n m = both (has g m) (leb n m)
 
 -- they are all unused, or share an AppSel and a DataPathID whose whole path would be the group
-unfoldable pub restIsWhole : View → ℕ → ℕ → Bool
+unfoldable pub restIsWhole : View → LaneSet → Lane → Bool
 restIsWhole v g n =
     either (not (someIn g (λ m. both (leb n m) (isUsed (of (v .active) m)))))
     (makePath (v .applications) (v .active) (notCopied g n) (nextIn laneCount g n) g)
 
-unfoldable pub passingFits : View → Working → ℕ → Verdict → Bool
+unfoldable pub passingFits : View → Working → LaneSet → Verdict → Bool
 passingFits v w g (Reject code) = true
 passingFits v w g (Pass n) = both (both (hasPurpose v w g) (rests v w g)) (both (holdsCopied v w g n) (restIsWhole v g n))
 
@@ -147,7 +147,7 @@ groupFits v w (InProgress p) = passingFits v w (p .group) (p .verdict)
 
 -- ---- sound: these five, no more
 
-unfoldable pub laneSound : Image → View → Working → ℕ → Bool
+unfoldable pub laneSound : Image → View → Working → Lane → Bool
 laneSound x v w l =
     both (both (statusTells x w l) (stageFits w l (stageAt w l)))
     (both (implies (not (isPassing (stageAt w l))) (outsidePassing x v w l)) (groupFits v w (stageAt w l)))

@@ -1,27 +1,31 @@
 -- The codes of ConfigStatus (01 "ConfigStatus"; 002 table 8-91).
-use Prim.Native.Nat.{ℕ}
+use Rattle.model.specs.Numbers.{Code}
 
-abbrev pub success : ℕ
+-- no Apply since start
+abbrev pub undefined : Code
+undefined = 0
+
+abbrev pub success : Code
 success = 1
 
 -- rejected, no closer reason
-abbrev pub rejected : ℕ
+abbrev pub rejected : Code
 rejected = 2
 
-abbrev pub invalidApplication : ℕ
+abbrev pub invalidApplication : Code
 invalidApplication = 3
 
-abbrev pub invalidPath : ℕ
+abbrev pub invalidPath : Code
 invalidPath = 4
 
-abbrev pub invalidSettings : ℕ
+abbrev pub invalidSettings : Code
 invalidSettings = 5
 
-abbrev pub lanesInUse : ℕ
+abbrev pub lanesInUse : Code
 lanesInUse = 6
 
-abbrev pub partialPath : ℕ
+abbrev pub partialPath : Code
 partialPath = 7
 
-abbrev pub inProgress : ℕ
+abbrev pub inProgress : Code
 inProgress = 12

@@ -1,7 +1,6 @@
-// Answers, and what every public call hands back.
+// Answers, by the numbers of the refusal list.
 ghost use mathlib.Core.Path.{_≡_};
 ghost use Rattle.model.specs.Answers.{number};
-use crate::lane::Working;
 
 // The answer to a call.
 pub enum Answer {
@@ -11,9 +10,9 @@ pub enum Answer {
     Unsound,
     BadAccess,
     ShortBuffer,
-    IdleLane,
+    NothingToDo,
     Busy,
-    NoSuchPlace,
+    NoSuchTarget,
     Malformed,
     BackToFront,
 }
@@ -30,18 +29,11 @@ impl Answer {
             Answer::Unsound => 3,
             Answer::BadAccess => 4,
             Answer::ShortBuffer => 5,
-            Answer::IdleLane => 6,
+            Answer::NothingToDo => 6,
             Answer::Busy => 7,
-            Answer::NoSuchPlace => 8,
+            Answer::NoSuchTarget => 8,
             Answer::Malformed => 9,
             Answer::BackToFront => 10,
         }
     }
-}
-
-// What a call hands back beside the image and the buffer that it was lent: its answer, the lanes to be commissioned, and the working state.
-pub struct Left {
-    pub answer: Answer,
-    pub mask: u8,
-    pub working: Working,
 }

@@ -1,6 +1,6 @@
 // Lanes: the record that each keeps of its Apply, and the working state that holds the eight of them.
 ghost use mathlib.Core.Path.{_≡_};
-ghost use Rattle.model.specs.Lanes.{idleRecord, idleWorking};
+ghost use Rattle.model.specs.Records.{idleRecord, idleWorking};
 
 // The settings of one lane, a number for each of its fields.
 pub struct Settings {
@@ -48,7 +48,7 @@ pub struct LaneRecord {
 impl LaneRecord {
     pub const COUNT: u8 = 8;
 
-    pub fn idle() -> Self
+    fn idle() -> Self
         ensures { λ r. ⌜ r ≡ idleRecord ⌝ }
     {
         LaneRecord { stage: Stage::Idle }

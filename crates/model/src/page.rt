@@ -1,7 +1,7 @@
 // Pages of upper memory.
 
 // Where the page that a host names starts in the image, if the module has it.
-pub enum PagePlace {
+pub enum PageStart {
     Unsupported,
     At(usize),
 }

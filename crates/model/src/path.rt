@@ -23,19 +23,19 @@ pub struct Signals {
 }
 
 impl PathState {
-    pub const RESERVED: u8 = 0;
+    const RESERVED: u8 = 0;
 
     pub const DEACTIVATED: u8 = 1;
 
     pub const INIT: u8 = 2;
 
-    pub const DEINIT: u8 = 3;
+    const DEINIT: u8 = 3;
 
-    pub const ACTIVATED: u8 = 4;
+    const ACTIVATED: u8 = 4;
 
-    pub const TX_TURN_ON: u8 = 5;
+    const TX_TURN_ON: u8 = 5;
 
-    pub const TX_TURN_OFF: u8 = 6;
+    const TX_TURN_OFF: u8 = 6;
 
     pub const INITIALIZED: u8 = 7;
 

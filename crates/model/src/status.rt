@@ -8,7 +8,7 @@ pub struct Status {
 }
 
 impl Status {
-    pub const SUCCESS: u8 = 1;
+    const SUCCESS: u8 = 1;
 
     pub const REJECTED: u8 = 2;
 

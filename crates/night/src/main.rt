@@ -1,7 +1,7 @@
 // Replays the night file on standard input and writes what it prints.
+use contracts::Replayed;
 use libc::STDIN_FILENO;
 use libc::STDOUT_FILENO;
-use replies::Replayed;
 
 // The longest file, and one byte more to notice a longer one.
 const INPUT: usize = 60785;
@@ -12,7 +12,7 @@ const OUTPUT: usize = 1955000;
 // Reads to the end of the input or of the buffer, replays what was read, and writes the text.
 fn replay_input(input: &mut [u8], output: &mut [u8]) {
     let n = io::read_full(STDIN_FILENO, input);
-    let replayed = replay::replay(&input[..n], output);
+    let replayed = night_replay::replay(&input[..n], output);
     let Replayed::Printed(count) = replayed else {
         return;
     };

@@ -7,15 +7,15 @@ use borrow.Author.Tests.{ltb-true, ltb-false}
 use Rattle.bits.specs.Choice.{pick}
 use Rattle.bits.proofs.Tests.{split}
 use Rattle.model.specs.Map.{Image, imageLength}
-use Rattle.model.specs.Pages.{placeOf}
+use Rattle.model.specs.Pages.{indexOf}
 use Rattle.model.specs.Access.{halfEnd}
 use Rattle.model.proofs.Starts.{start-fits}
 use Rattle.pages.specs.Halves.{halfLength, halfStart}
 
 module _ (x : Image) (a : ℕ) where
   -- the place of an address is an offset of its half
-  pub place-by : a < 256 → halfStart x a + a % halfLength ≡ placeOf x a
-  unfolding halfStart placeOf pick
+  pub place-by : a < 256 → halfStart x a + a % halfLength ≡ indexOf x a
+  unfolding halfStart indexOf pick
   place-by h = split (ltb a halfLength)
       (λ t. let l : a < halfLength = ltb-true a halfLength t in rw (t, pick) (omega arith))
       (λ f. let l : halfLength ≤ a = ltb-false a halfLength f in rw (f, pick) (omega arith))

@@ -7,8 +7,8 @@ use lib.ListN.{length, getD, set}
 use Rattle.bits.specs.Choice.{pick}
 use Rattle.bits.specs.Loop.{each, tab}
 use Rattle.bits.proofs.Loops.{change-loop, tab-ext}
-use Rattle.model.specs.Map.{laneCount}
-use Rattle.model.specs.Lanes.{idleRecord, recordAt, stageAt, withStage, withStages}
+use Rattle.bits.specs.Sets.{laneCount}
+use Rattle.model.specs.Records.{idleRecord, recordAt, stageAt, withStage, withStages}
 use Rattle.model.specs.declared.lane.Stage.{Stage}
 use Rattle.model.specs.declared.lane.LaneRecord.{LaneRecord}
 use Rattle.model.specs.declared.lane.Working.{Working}

@@ -1,9 +1,8 @@
 // The lanes' records: everything that looks into one or replaces one.
 ghost use mathlib.Core.Path.{_≡_};
 ghost use Prim.Native.Nat.{_<_};
-ghost use Rattle.bits.specs.Sets.{maskOf};
-ghost use Rattle.model.specs.Map.{laneCount};
-ghost use Rattle.model.specs.Lanes.{stageAt, isInProgress, isPass, isPassing, heldIn, withStage, withVerdict, freed, advanced};
+ghost use Rattle.bits.specs.Sets.{maskOf, laneCount};
+ghost use Rattle.model.specs.Records.{stageAt, isInProgress, isPass, isPassing, heldIn, withStage, withVerdict, freedWorking, advancedWorking};
 ghost use Rattle.model.specs.Work.{isRelease};
 use model::lane::LaneRecord;
 use model::lane::Progress;
@@ -40,7 +39,7 @@ pub fn busy_lanes(w: Working) -> u8
     let mut busy: u8 = 0;
     for lane in 0..LaneRecord::COUNT {
         let yes = is_in_progress(stage_at(w, lane));
-        busy = sets::with_lane(busy, lane, yes);
+        busy = bits_sets::with_lane(busy, lane, yes);
     }
     busy
 }
@@ -68,7 +67,7 @@ pub fn is_passing(stage: Stage) -> bool
 }
 
 // The settings that a stage holds; an idle one holds zeros.
-pub fn held_in(stage: Stage) -> Settings
+fn held_in(stage: Stage) -> Settings
     ensures { λ r. ⌜ r ≡ heldIn stage ⌝ }
 {
     match stage {
@@ -104,7 +103,7 @@ pub fn is_release(w: Working, group: u8) -> bool
     let mut used = false;
     for lane in 0..LaneRecord::COUNT {
         let held = held_at(w, lane);
-        used = used | (sets::is_in(group, lane) & settings::is_used(held));
+        used = used | (bits_sets::is_in(group, lane) & view_settings::is_used(held));
     }
     !used
 }
@@ -137,11 +136,11 @@ fn with_verdict(stage: Stage, verdict: Verdict) -> Stage
 
 // The group's lanes idle again.
 pub fn freed(w: Working, group: u8) -> Working
-    ensures { λ r. ⌜ r ≡ freed w group ⌝ }
+    ensures { λ r. ⌜ r ≡ freedWorking w group ⌝ }
 {
     let mut next = w;
     for lane in 0..LaneRecord::COUNT {
-        if sets::is_in(group, lane) {
+        if bits_sets::is_in(group, lane) {
             let i = lane as usize;
             let own = next.lanes[i];
             let idle = with_stage(own, Stage::Idle);
@@ -153,11 +152,11 @@ pub fn freed(w: Working, group: u8) -> Working
 
 // The group's next lane is n.
 pub fn advanced(w: Working, group: u8, n: u8) -> Working
-    ensures { λ r. ⌜ r ≡ advanced w group n ⌝ }
+    ensures { λ r. ⌜ r ≡ advancedWorking w group n ⌝ }
 {
     let mut next = w;
     for lane in 0..LaneRecord::COUNT {
-        if sets::is_in(group, lane) {
+        if bits_sets::is_in(group, lane) {
             let i = lane as usize;
             let own = next.lanes[i];
             let stage = own.stage;

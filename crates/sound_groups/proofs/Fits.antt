@@ -1,11 +1,12 @@
 -- The code's tests of triggers and settings are the model's. Assumes nothing.
 use mathlib.Core.Path.{_≡_, refl, sym, _∙_}
-use mathlib.Core.Bool.{Bool, true, false, not, _&&_}
+use mathlib.Core.Bool.{not, _&&_}
 use Prim.Native.Nat.{_<_}
 use lib.Dec.{ltb}
 use borrow.Author.Tests.{lt-ltb}
 use Rattle.bits.specs.Choice.{both}
 use Rattle.bits.specs.Loop.{allBelow}
+use Rattle.bits.proofs.Tests.{and-seven}
 use Rattle.model.specs.View.{settingValues}
 use Rattle.model.specs.Sound.{sameTrigger, settingsFit}
 use Rattle.model.specs.declared.lane.Settings.{Settings}
@@ -17,18 +18,6 @@ pub not-init : (t : Trigger) → not (sameTrigger DpInit t) ≡ sameTrigger Imme
 unfolding sameTrigger
 not-init DpInit = refl
 not-init Immediate = refl
-
--- seven tests in a row
-
-pub and-seven : (a b c d e f g : Bool) → ((((((a && b) && c) && d) && e) && f) && g) ≡ both (both (both (both (both (both a b) c) d) e) f) g
-unfolding both
-and-seven false b c d e f g = refl
-and-seven true false c d e f g = refl
-and-seven true true false d e f g = refl
-and-seven true true true false e f g = refl
-and-seven true true true true false f g = refl
-and-seven true true true true true false g = refl
-and-seven true true true true true true g = refl
 
 -- a byte always fits DPConfig
 pub fit-by : (h : Settings) → h .config < 256

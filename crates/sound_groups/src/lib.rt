@@ -3,10 +3,8 @@ ghost use mathlib.Core.Path.{_≡_};
 ghost use Prim.Native.Nat.{_<_};
 ghost use lib.Dec.{ltb};
 ghost use Rattle.bits.specs.Choice.{both};
-ghost use Rattle.bits.specs.Sets.{has};
-ghost use Rattle.model.specs.Map.{laneCount};
-ghost use Rattle.model.specs.Lanes.{stageAt};
-ghost use Rattle.model.specs.Groups.{everyIn};
+ghost use Rattle.bits.specs.Sets.{has, laneCount, everyIn};
+ghost use Rattle.model.specs.Records.{stageAt};
 ghost use Rattle.model.specs.Sound.{sameTrigger, sameVerdict, agrees, settingsFit, verdictFits, stageFits};
 ghost use Rattle.model.specs.declared.lane.Trigger.the-variants.{DpInit};
 ghost use Rattle.model.specs.declared.lane.Verdict.the-variants.{Pass, Reject};
@@ -91,7 +89,7 @@ fn all_agree(w: Working, p: Progress) -> bool
     let mut all = true;
     for lane in 0..LaneRecord::COUNT {
         let agreed = agrees(p, records::stage_at(w, lane));
-        all = all & (!sets::is_in(p.group, lane) | agreed);
+        all = all & (!bits_sets::is_in(p.group, lane) | agreed);
     }
     all
 }
@@ -114,7 +112,7 @@ fn is_lane_of(group: u8, n: u8) -> bool
     ensures { λ r. ⌜ r ≡ both (ltb n laneCount) (has group n) ⌝ }
 {
     if n < LaneRecord::COUNT {
-        sets::is_in(group, n)
+        bits_sets::is_in(group, n)
     } else {
         false
     }
@@ -140,7 +138,7 @@ pub fn stage_fits(w: Working, lane: u8, stage: Stage) -> bool
         Stage::InProgress(p) => {
             let held = p.held;
             let verdict = p.verdict;
-            (sets::is_in(p.group, lane) & all_agree(w, p))
+            (bits_sets::is_in(p.group, lane) & all_agree(w, p))
                 & (settings_fit(held) & verdict_fits(p.group, verdict))
         }
     }

@@ -17,20 +17,8 @@ abbrev μ-loop : tie.MeasureT-loop
 loop-holds : tie.Need-loop-holds Inv-loop μ-loop
 loop-holds c = (search needs, reaches-begin _)
 
-add-descriptor-at : tie.Need-add-descriptor-at Inv-loop μ-loop
-add-descriptor-at c = search needs
-
-descriptor-at-requires : tie.Need-descriptor-at-requires Inv-loop μ-loop
-descriptor-at-requires c κs = search needs
-
 shared-slice-read-first : tie.Need-shared-slice-read-first Inv-loop μ-loop
 shared-slice-read-first c = let f = descriptor-fits (c .before .descriptor-at .ensures) (omega arith) in search (needs, f)
-
-add-before : tie.Need-add-before Inv-loop μ-loop
-add-before c = search needs
-
-loop-less : tie.Need-loop-less Inv-loop μ-loop
-loop-less c = search needs
 
 loop-again : tie.Need-loop-again Inv-loop μ-loop
 loop-again c = (search needs, reaches-turn _ _ _ _ (c .before .descriptor-at .ensures) (c .before .before .before .loop .inv .1))
@@ -45,10 +33,10 @@ list-reaches-spec =
     Inv-loop
     μ-loop
     loop-holds
-    add-descriptor-at
-    descriptor-at-requires
+    (λ c. search needs)
+    (λ c κs. search needs)
     shared-slice-read-first
-    add-before
-    loop-less
+    (λ c. search needs)
+    (λ c. search needs)
     loop-again
     returns)

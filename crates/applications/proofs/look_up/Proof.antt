@@ -11,20 +11,11 @@ returns c = below-first _ _ (c .if1 .taken)
 returns-2 : tie.Need-returns-2
 returns-2 c = above-last _ _ (c .if2 .taken)
 
-descriptor-at-requires : tie.Need-descriptor-at-requires
-descriptor-at-requires c κs = search needs
-
-list-reaches-requires : tie.Need-list-reaches-requires
-list-reaches-requires c κs = search needs
-
 add-take-field : tie.Need-add-take-field
 add-take-field c = let f = descriptor-fits (c .before .descriptor-at .ensures) (omega arith) in search (needs, f)
 
 shared-slice-read-take-field : tie.Need-shared-slice-read-take-field
 shared-slice-read-take-field c = let f = descriptor-fits (c .before .before .descriptor-at .ensures) (omega arith) in search (needs, f)
-
-take-field-requires : tie.Need-take-field-requires
-take-field-requires c κs = search needs
 
 add-firsts : tie.Need-add-firsts
 add-firsts c = let f = descriptor-fits (c .before .before .before .before .descriptor-at .ensures) (omega arith) in search (needs, f)
@@ -49,11 +40,11 @@ look-up-spec =
     (tie.spec
     returns
     returns-2
-    descriptor-at-requires
-    list-reaches-requires
+    (λ c κs. search needs)
+    (λ c κs. search needs)
     add-take-field
     shared-slice-read-take-field
-    take-field-requires
+    (λ c κs. search needs)
     add-firsts
     shared-slice-read-firsts
     returns-3

@@ -24,18 +24,6 @@ sum c =
     whole (s .args .x) (s .args .shift) (s .args .width) (s .args .v) _ _ _ (s .fits .x .fits) (s .pre)
     (c .before .before .pow2 .ensures) (c .before .pow22 .ensures) (c .pow23 .ensures)
 
-add-pow2 : tie.Need-add-pow2
-add-pow2 c = search needs
-
-pow2-requires : tie.Need-pow2-requires
-pow2-requires c κs = search needs
-
-pow2-requires-2 : tie.Need-pow2-requires-2
-pow2-requires-2 c κs = search needs
-
-pow2-requires-3 : tie.Need-pow2-requires-3
-pow2-requires-3 c κs = search needs
-
 rem-fit : tie.Need-rem-fit
 rem-fit c = rw (c .pow23 .ensures) (pow-pos _)
 
@@ -68,10 +56,10 @@ pub put-field-spec : {M : Type 1} → statement M
 put-field-spec =
     tie.close
     (tie.spec
-    add-pow2
-    pow2-requires
-    pow2-requires-2
-    pow2-requires-3
+    (λ c. search needs)
+    (λ c κs. search needs)
+    (λ c κs. search needs)
+    (λ c κs. search needs)
     rem-fit
     div-result
     mul-result

@@ -7,14 +7,8 @@ use borrow.Author.Needs.{needs}
 use Rattle.bits.proofs.take_field.Statement.{statement}
 use Rattle.bits.proofs.take_field.Tie as tie
 
-pow2-requires : tie.Need-pow2-requires
-pow2-requires c κs = search needs
-
 div-result : tie.Need-div-result
 div-result c = rw (c .pow2 .ensures) (pow-pos _)
-
-pow2-requires-2 : tie.Need-pow2-requires-2
-pow2-requires-2 c κs = search needs
 
 rem-result : tie.Need-rem-result
 rem-result c = rw (c .pow22 .ensures) (pow-pos _)
@@ -28,4 +22,4 @@ returns c = rw (c .before .pow2 .ensures, c .pow22 .ensures)
 
 pub take-field-spec : {M : Type 1} → statement M
 take-field-spec =
-    tie.close (tie.spec pow2-requires div-result pow2-requires-2 rem-result cast-result returns)
+    tie.close (tie.spec (λ c κs. search needs) div-result (λ c κs. search needs) rem-result cast-result returns)

@@ -5,15 +5,9 @@ use borrow.Author.Needs.{needs}
 use Rattle.map.proofs.clearing.Statement.{statement}
 use Rattle.map.proofs.clearing.Tie as tie
 
-within-requires : tie.Need-within-requires
-within-requires c κs = search needs
-
-on-page-requires : tie.Need-on-page-requires
-on-page-requires c κs = search needs
-
 returns : tie.Need-returns
 unfolding clearing inRanges
 returns c = all-tests (then-test (first-test (c .before .within .ensures)) (c .on-page .ensures))
 
 pub clearing-spec : {M : Type 1} → statement M
-clearing-spec = tie.close (tie.spec within-requires on-page-requires returns)
+clearing-spec = tie.close (tie.spec (λ c κs. search needs) (λ c κs. search needs) returns)

@@ -6,7 +6,7 @@ use lib.Dec.{eqb}
 use borrow.Author.Tests.{eq-eqb, ne-eqb}
 use Rattle.bits.specs.Choice.{pick, both, implies}
 use Rattle.bits.proofs.Tests.{and-both}
-use Rattle.model.specs.Pages.{pagePlace, findPage}
+use Rattle.model.specs.Pages.{pageStart, findPage}
 use Rattle.pages.proofs.page_place.Statement.{statement}
 use Rattle.pages.proofs.page_place.Tie as tie
 
@@ -15,27 +15,27 @@ in-bank : {t : Bool} (page number bank : ℕ) → (eqb page number && eqb bank 0
 in-bank page number bank e = sym (and-both (eqb page number) (eqb bank 0)) ∙ e
 
 returns : tie.Need-returns
-unfolding pagePlace findPage pick both implies
+unfolding pageStart findPage pick both implies
 returns c = rw (eq-eqb _ _ (c .if1 .taken))
 
 returns-2 : tie.Need-returns-2
-unfolding pagePlace findPage pick both implies
+unfolding pageStart findPage pick both implies
 returns-2 c = rw (ne-eqb _ _ (c .before .if1 .left), eq-eqb _ _ (c .if2 .taken))
 
 returns-3 : tie.Need-returns-3
-unfolding pagePlace findPage pick both implies
+unfolding pageStart findPage pick both implies
 returns-3 c = rw (ne-eqb _ _ (c .before .before .if1 .left), ne-eqb _ _ (c .before .if2 .left), eq-eqb _ _ (c .if3 .taken))
 
 returns-4 : tie.Need-returns-4
-unfolding pagePlace findPage pick both implies
+unfolding pageStart findPage pick both implies
 returns-4 c = let a = c .before .before .before .before .args in rw (ne-eqb _ _ (c .before .before .before .if1 .left), ne-eqb _ _ (c .before .before .if2 .left), ne-eqb _ _ (c .before .if3 .left), in-bank (a .page) 16 (a .bank) (c .if4 .taken))
 
 returns-5 : tie.Need-returns-5
-unfolding pagePlace findPage pick both implies
+unfolding pageStart findPage pick both implies
 returns-5 c = let a = c .before .before .before .before .before .args in rw (ne-eqb _ _ (c .before .before .before .before .if1 .left), ne-eqb _ _ (c .before .before .before .if2 .left), ne-eqb _ _ (c .before .before .if3 .left), in-bank (a .page) 16 (a .bank) (c .before .if4 .left), in-bank (a .page) 17 (a .bank) (c .if5 .taken))
 
 returns-6 : tie.Need-returns-6
-unfolding pagePlace findPage pick both implies
+unfolding pageStart findPage pick both implies
 returns-6 c = let a = c .before .before .before .before .before .args in rw (ne-eqb _ _ (c .before .before .before .before .if1 .left), ne-eqb _ _ (c .before .before .before .if2 .left), ne-eqb _ _ (c .before .before .if3 .left), in-bank (a .page) 16 (a .bank) (c .before .if4 .left), in-bank (a .page) 17 (a .bank) (c .if5 .left))
 
 pub page-place-spec : {M : Type 1} → statement M

@@ -6,10 +6,9 @@ use mathlib.Core.Logic.{⊎-elim}
 use Prim.Native.Nat.{_≤_, _-_}
 use lib.ListN.{length-map}
 use Rattle.bits.specs.Loop.{each}
-use Rattle.bits.specs.Sets.{has}
+use Rattle.bits.specs.Sets.{has, laneCount}
 use Rattle.bits.proofs.Loops.{each-begin, each-turn, each-pass}
-use Rattle.model.specs.Map.{laneCount}
-use Rattle.model.specs.Lanes.{withVerdict, advanced}
+use Rattle.model.specs.Records.{withVerdict, advancedWorking}
 use Rattle.records.proofs.Stages.{restaged, stages-loop}
 use Rattle.model.specs.declared.lane.Verdict.the-variants.{Pass}
 use Rattle.records.proofs.advanced.Statement.{statement}
@@ -32,7 +31,7 @@ loop-again c =
     (c .if1 .came)
 
 returns : tie.Need-returns Inv-loop μ-loop
-unfolding advanced
+unfolding advancedWorking
 returns c =
     let e : c .before .loop .lane ≡ laneCount = omega arith in
     let n = c .before .before .args .n in

@@ -3,9 +3,8 @@ use borrow.Author.Needs.{needs}
 use mathlib.Core.Path.{_≡_, ap, _∙_}
 use native.Mathlib.Omega.{arith}
 use Prim.Native.Nat.{_≤_, _-_}
-use Rattle.bits.specs.Sets.{maskOf}
-use Rattle.model.specs.Map.{laneCount}
-use Rattle.model.specs.Lanes.{stageAt, isInProgress}
+use Rattle.bits.specs.Sets.{maskOf, laneCount}
+use Rattle.model.specs.Records.{stageAt, isInProgress}
 use Rattle.bits.proofs.Turns.{mask-begin, mask-turn}
 use Rattle.records.proofs.busy_lanes.Statement.{statement}
 use Rattle.records.proofs.busy_lanes.Tie as tie

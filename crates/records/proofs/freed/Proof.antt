@@ -6,10 +6,9 @@ use mathlib.Core.Logic.{⊎-elim}
 use Prim.Native.Nat.{_≤_, _-_}
 use lib.ListN.{length-map}
 use Rattle.bits.specs.Loop.{each}
-use Rattle.bits.specs.Sets.{has}
+use Rattle.bits.specs.Sets.{has, laneCount}
 use Rattle.bits.proofs.Loops.{each-begin, each-turn, each-pass}
-use Rattle.model.specs.Map.{laneCount}
-use Rattle.model.specs.Lanes.{freed}
+use Rattle.model.specs.Records.{freedWorking}
 use Rattle.records.proofs.Stages.{restaged, stages-loop}
 use Rattle.model.specs.declared.lane.Stage.the-variants.{Idle}
 use Rattle.records.proofs.freed.Statement.{statement}
@@ -31,7 +30,7 @@ loop-again c =
     (c .if1 .came)
 
 returns : tie.Need-returns Inv-loop μ-loop
-unfolding freed
+unfolding freedWorking
 returns c =
     let e : c .before .loop .lane ≡ laneCount = omega arith in
     let eight = simp length-map at (c .before .before .good .0 .1 .1 .0 .1 .0 .1) in

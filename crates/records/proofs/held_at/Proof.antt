@@ -3,14 +3,8 @@ use borrow.Author.Needs.{needs}
 use Rattle.records.proofs.held_at.Statement.{statement}
 use Rattle.records.proofs.held_at.Tie as tie
 
-stage-at-requires : tie.Need-stage-at-requires
-stage-at-requires c κs = search needs
-
-held-in-requires : tie.Need-held-in-requires
-held-in-requires c κs = search needs
-
 returns : tie.Need-returns
 returns c = rw (c .held-in .ensures, c .before .stage-at .ensures)
 
 pub held-at-spec : {M : Type 1} → statement M
-held-at-spec = tie.close (tie.spec stage-at-requires held-in-requires returns)
+held-at-spec = tie.close (tie.spec (λ c κs. search needs) (λ c κs. search needs) returns)

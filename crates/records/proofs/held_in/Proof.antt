@@ -1,14 +1,8 @@
 -- `records::held_in` meets its contract. Assumes nothing.
 use borrow.Author.Needs.{needs}
-use Rattle.model.specs.Lanes.{heldIn}
+use Rattle.model.specs.Records.{heldIn}
 use Rattle.records.proofs.held_in.Statement.{statement}
 use Rattle.records.proofs.held_in.Tie as tie
-
-enum-told : tie.Need-enum-told
-enum-told c = search needs
-
-enum-known-stage : tie.Need-enum-known-stage
-enum-known-stage c = search needs
 
 returns : tie.Need-returns
 unfolding heldIn
@@ -19,4 +13,4 @@ unfolding heldIn
 returns-2 c = rw (c .before .before .stage .given .1)
 
 pub held-in-spec : {M : Type 1} → statement M
-held-in-spec = tie.close (tie.spec enum-told enum-known-stage returns returns-2)
+held-in-spec = tie.close (tie.spec (λ c. search needs) (λ c. search needs) returns returns-2)

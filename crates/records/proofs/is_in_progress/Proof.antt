@@ -1,14 +1,8 @@
 -- `records::is_in_progress` meets its contract. Assumes nothing.
 use borrow.Author.Needs.{needs}
-use Rattle.model.specs.Lanes.{isInProgress}
+use Rattle.model.specs.Records.{isInProgress}
 use Rattle.records.proofs.is_in_progress.Statement.{statement}
 use Rattle.records.proofs.is_in_progress.Tie as tie
-
-enum-told : tie.Need-enum-told
-enum-told c = search needs
-
-enum-told-2 : tie.Need-enum-told-2
-enum-told-2 c = search needs
 
 returns : tie.Need-returns
 unfolding isInProgress
@@ -19,4 +13,4 @@ unfolding isInProgress
 returns-2 c = rw (c .enum-told2 .given .1)
 
 pub is-in-progress-spec : {M : Type 1} → statement M
-is-in-progress-spec = tie.close (tie.spec enum-told enum-told-2 returns returns-2)
+is-in-progress-spec = tie.close (tie.spec (λ c. search needs) (λ c. search needs) returns returns-2)

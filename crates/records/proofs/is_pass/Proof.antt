@@ -1,14 +1,8 @@
 -- `records::is_pass` meets its contract. Assumes nothing.
 use borrow.Author.Needs.{needs}
-use Rattle.model.specs.Lanes.{isPass}
+use Rattle.model.specs.Records.{isPass}
 use Rattle.records.proofs.is_pass.Statement.{statement}
 use Rattle.records.proofs.is_pass.Tie as tie
-
-enum-told : tie.Need-enum-told
-enum-told c = search needs
-
-enum-told-2 : tie.Need-enum-told-2
-enum-told-2 c = search needs
 
 returns : tie.Need-returns
 unfolding isPass
@@ -19,4 +13,4 @@ unfolding isPass
 returns-2 c = rw (c .enum-told2 .given .1)
 
 pub is-pass-spec : {M : Type 1} → statement M
-is-pass-spec = tie.close (tie.spec enum-told enum-told-2 returns returns-2)
+is-pass-spec = tie.close (tie.spec (λ c. search needs) (λ c. search needs) returns returns-2)

@@ -1,17 +1,8 @@
 -- `records::is_passing` meets its contract. Assumes nothing.
 use borrow.Author.Needs.{needs}
-use Rattle.model.specs.Lanes.{isPassing}
+use Rattle.model.specs.Records.{isPassing}
 use Rattle.records.proofs.is_passing.Statement.{statement}
 use Rattle.records.proofs.is_passing.Tie as tie
-
-enum-told : tie.Need-enum-told
-enum-told c = search needs
-
-enum-known-stage : tie.Need-enum-known-stage
-enum-known-stage c = search needs
-
-is-pass-requires : tie.Need-is-pass-requires
-is-pass-requires c κs = search needs
 
 returns : tie.Need-returns
 unfolding isPassing
@@ -23,4 +14,4 @@ returns-2 c = rw (c .before .before .stage .given .1) (c .is-pass .ensures)
 
 pub is-passing-spec : {M : Type 1} → statement M
 is-passing-spec =
-    tie.close (tie.spec enum-told enum-known-stage is-pass-requires returns returns-2)
+    tie.close (tie.spec (λ c. search needs) (λ c. search needs) (λ c κs. search needs) returns returns-2)

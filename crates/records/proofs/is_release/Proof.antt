@@ -6,10 +6,9 @@ use mathlib.Core.Bool.{not}
 use Prim.Native.Nat.{_≤_, _-_}
 use Rattle.bits.specs.Choice.{both}
 use Rattle.bits.specs.Loop.{anyBelow}
-use Rattle.bits.specs.Sets.{has}
-use Rattle.model.specs.Lanes.{stageAt, heldIn}
+use Rattle.bits.specs.Sets.{has, someIn}
+use Rattle.model.specs.Records.{stageAt, heldIn}
 use Rattle.model.specs.View.{isUsed}
-use Rattle.model.specs.Groups.{someIn}
 use Rattle.model.specs.Work.{isRelease}
 use Rattle.bits.proofs.Turns.{any-begin, some-turn}
 use Rattle.records.proofs.is_release.Statement.{statement}
@@ -23,21 +22,6 @@ abbrev μ-loop : tie.MeasureT-loop
 
 loop-holds : tie.Need-loop-holds Inv-loop μ-loop
 loop-holds c = (search needs, any-begin _)
-
-held-at-requires : tie.Need-held-at-requires Inv-loop μ-loop
-held-at-requires c κs = search needs
-
-is-in-requires : tie.Need-is-in-requires Inv-loop μ-loop
-is-in-requires c κs = search needs
-
-is-used-requires : tie.Need-is-used-requires Inv-loop μ-loop
-is-used-requires c κs = search needs
-
-add-lane : tie.Need-add-lane Inv-loop μ-loop
-add-lane c = search needs
-
-loop-less : tie.Need-loop-less Inv-loop μ-loop
-loop-less c = search needs
 
 loop-again : tie.Need-loop-again Inv-loop μ-loop
 loop-again c = (search needs, some-turn _ _ _ _ _ _ (c .before .before .before .before .loop .inv .1) (c .before .is-in .ensures) (c .is-used .ensures ∙ ap isUsed (c .before .before .held-at .ensures)))
@@ -53,10 +37,10 @@ is-release-spec =
     Inv-loop
     μ-loop
     loop-holds
-    held-at-requires
-    is-in-requires
-    is-used-requires
-    add-lane
-    loop-less
+    (λ c κs. search needs)
+    (λ c κs. search needs)
+    (λ c κs. search needs)
+    (λ c. search needs)
+    (λ c. search needs)
     loop-again
     returns)

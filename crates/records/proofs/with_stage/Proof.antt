@@ -1,6 +1,6 @@
 -- `records::with_stage` meets its contract. Assumes nothing.
 use mathlib.Core.Path.{refl}
-use Rattle.model.specs.Lanes.{withStage}
+use Rattle.model.specs.Records.{withStage}
 use Rattle.records.proofs.with_stage.Statement.{statement}
 use Rattle.records.proofs.with_stage.Tie as tie
 

@@ -1,6 +1,6 @@
 -- `records::with_verdict` meets its contract. Assumes nothing.
 use borrow.Author.Needs.{needs}
-use Rattle.model.specs.Lanes.{withVerdict}
+use Rattle.model.specs.Records.{withVerdict}
 use Rattle.records.proofs.with_verdict.Statement.{statement}
 use Rattle.records.proofs.with_verdict.Tie as tie
 

@@ -1,6 +1,6 @@
 -- `registers::call` meets its contract: what is refused at the entry is left as it was, and any other event is its step. Assumes nothing.
 use borrow.Author.Needs.{needs}
-use Rattle.entry.proofs.Entries.{entered-length, not-done, is-done}
+use Rattle.refusals.proofs.Entries.{entered-length, not-done, is-done}
 use Rattle.registers.proofs.Calls.{call-refused, call-step}
 use Rattle.registers.proofs.call.Statement.{statement}
 use Rattle.registers.proofs.call.Tie as tie

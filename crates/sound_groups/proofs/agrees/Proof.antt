@@ -7,18 +7,6 @@ use Rattle.model.specs.Sound.{agrees}
 use Rattle.sound_groups.proofs.agrees.Statement.{statement}
 use Rattle.sound_groups.proofs.agrees.Tie as tie
 
-enum-told : tie.Need-enum-told
-enum-told c = search needs
-
-enum-known-stage : tie.Need-enum-known-stage
-enum-known-stage c = search needs
-
-same-trigger-requires : tie.Need-same-trigger-requires
-same-trigger-requires c κs = search needs
-
-same-verdict-requires : tie.Need-same-verdict-requires
-same-verdict-requires c κs = search needs
-
 returns : tie.Need-returns
 unfolding agrees
 returns c = rw (c .enum-told .given .1)
@@ -31,9 +19,9 @@ pub agrees-spec : {M : Type 1} → statement M
 agrees-spec =
     tie.close
     (tie.spec
-    enum-told
-    enum-known-stage
-    same-trigger-requires
-    same-verdict-requires
+    (λ c. search needs)
+    (λ c. search needs)
+    (λ c κs. search needs)
+    (λ c κs. search needs)
     returns
     returns-2)

@@ -5,9 +5,8 @@ use mathlib.Core.Path.{_≡_, ap, _∙_}
 use Prim.Native.Nat.{_≤_, _-_}
 use Rattle.bits.specs.Choice.{implies}
 use Rattle.bits.specs.Loop.{allBelow}
-use Rattle.bits.specs.Sets.{has}
-use Rattle.model.specs.Lanes.{stageAt}
-use Rattle.model.specs.Groups.{everyIn}
+use Rattle.bits.specs.Sets.{has, everyIn}
+use Rattle.model.specs.Records.{stageAt}
 use Rattle.model.specs.Sound.{agrees}
 use Rattle.bits.proofs.Turns.{all-begin, every-turn}
 use Rattle.sound_groups.proofs.all_agree.Statement.{statement}
@@ -21,21 +20,6 @@ abbrev μ-loop : tie.MeasureT-loop
 
 loop-holds : tie.Need-loop-holds Inv-loop μ-loop
 loop-holds c = (search needs, all-begin _)
-
-stage-at-requires : tie.Need-stage-at-requires Inv-loop μ-loop
-stage-at-requires c κs = search needs
-
-agrees-requires : tie.Need-agrees-requires Inv-loop μ-loop
-agrees-requires c κs = search needs
-
-is-in-requires : tie.Need-is-in-requires Inv-loop μ-loop
-is-in-requires c κs = search needs
-
-add-lane : tie.Need-add-lane Inv-loop μ-loop
-add-lane c = search needs
-
-loop-less : tie.Need-loop-less Inv-loop μ-loop
-loop-less c = search needs
 
 loop-again : tie.Need-loop-again Inv-loop μ-loop
 loop-again c = (search needs, every-turn _ _ _ _ _ _ (c .before .before .before .before .loop .inv .1) (c .is-in .ensures) (c .before .agrees .ensures ∙ ap (agrees _) (c .before .before .stage-at .ensures)))
@@ -51,10 +35,10 @@ all-agree-spec =
     Inv-loop
     μ-loop
     loop-holds
-    stage-at-requires
-    agrees-requires
-    is-in-requires
-    add-lane
-    loop-less
+    (λ c κs. search needs)
+    (λ c κs. search needs)
+    (λ c κs. search needs)
+    (λ c. search needs)
+    (λ c. search needs)
     loop-again
     returns)

@@ -5,9 +5,6 @@ use Rattle.bits.specs.Choice.{both}
 use Rattle.sound_groups.proofs.is_lane_of.Statement.{statement}
 use Rattle.sound_groups.proofs.is_lane_of.Tie as tie
 
-is-in-requires : tie.Need-is-in-requires
-is-in-requires c κs = search needs
-
 returns : tie.Need-returns
 unfolding both
 returns c = rw (lt-ltb _ _ (c .before .if1 .taken), both) (c .is-in .ensures)
@@ -17,4 +14,4 @@ unfolding both
 returns-2 c = rw (le-ltb _ _ (c .if1 .left), both)
 
 pub is-lane-of-spec : {M : Type 1} → statement M
-is-lane-of-spec = tie.close (tie.spec is-in-requires returns returns-2)
+is-lane-of-spec = tie.close (tie.spec (λ c κs. search needs) returns returns-2)

@@ -4,12 +4,6 @@ use Rattle.model.specs.Sound.{sameVerdict}
 use Rattle.sound_groups.proofs.passes_at.Statement.{statement}
 use Rattle.sound_groups.proofs.passes_at.Tie as tie
 
-enum-known-verdict : tie.Need-enum-known-verdict
-enum-known-verdict c = search needs
-
-enum-told : tie.Need-enum-told
-enum-told c = search needs
-
 returns : tie.Need-returns
 unfolding sameVerdict
 returns c = rw (c .before .verdict .given .1)
@@ -19,4 +13,4 @@ unfolding sameVerdict
 returns-2 c = rw (c .enum-told .given .1)
 
 pub passes-at-spec : {M : Type 1} → statement M
-passes-at-spec = tie.close (tie.spec enum-known-verdict enum-told returns returns-2)
+passes-at-spec = tie.close (tie.spec (λ c. search needs) (λ c. search needs) returns returns-2)

@@ -4,12 +4,6 @@ use Rattle.model.specs.Sound.{sameVerdict}
 use Rattle.sound_groups.proofs.rejects_with.Statement.{statement}
 use Rattle.sound_groups.proofs.rejects_with.Tie as tie
 
-enum-told : tie.Need-enum-told
-enum-told c = search needs
-
-enum-known-verdict : tie.Need-enum-known-verdict
-enum-known-verdict c = search needs
-
 returns : tie.Need-returns
 unfolding sameVerdict
 returns c = rw (c .enum-told .given .1)
@@ -19,4 +13,4 @@ unfolding sameVerdict
 returns-2 c = rw (c .before .verdict .given .1)
 
 pub rejects-with-spec : {M : Type 1} → statement M
-rejects-with-spec = tie.close (tie.spec enum-told enum-known-verdict returns returns-2)
+rejects-with-spec = tie.close (tie.spec (λ c. search needs) (λ c. search needs) returns returns-2)

@@ -3,18 +3,6 @@ use borrow.Author.Needs.{needs}
 use Rattle.sound_groups.proofs.same_verdict.Statement.{statement}
 use Rattle.sound_groups.proofs.same_verdict.Tie as tie
 
-enum-known-a : tie.Need-enum-known-a
-enum-known-a c = search needs
-
-passes-at-requires : tie.Need-passes-at-requires
-passes-at-requires c κs = search needs
-
-enum-known-a-2 : tie.Need-enum-known-a-2
-enum-known-a-2 c = search needs
-
-rejects-with-requires : tie.Need-rejects-with-requires
-rejects-with-requires c κs = search needs
-
 returns : tie.Need-returns
 returns c = rw (c .before .before .a .given .1) (c .passes-at .ensures)
 
@@ -25,9 +13,9 @@ pub same-verdict-spec : {M : Type 1} → statement M
 same-verdict-spec =
     tie.close
     (tie.spec
-    enum-known-a
-    passes-at-requires
-    enum-known-a-2
-    rejects-with-requires
+    (λ c. search needs)
+    (λ c κs. search needs)
+    (λ c. search needs)
+    (λ c κs. search needs)
     returns
     returns-2)

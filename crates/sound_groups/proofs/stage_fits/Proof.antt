@@ -7,24 +7,6 @@ use Rattle.model.specs.Sound.{stageFits}
 use Rattle.sound_groups.proofs.stage_fits.Statement.{statement}
 use Rattle.sound_groups.proofs.stage_fits.Tie as tie
 
-enum-told : tie.Need-enum-told
-enum-told c = search needs
-
-enum-known-stage : tie.Need-enum-known-stage
-enum-known-stage c = search needs
-
-is-in-requires : tie.Need-is-in-requires
-is-in-requires c κs = search needs
-
-all-agree-requires : tie.Need-all-agree-requires
-all-agree-requires c κs = search needs
-
-settings-fit-requires : tie.Need-settings-fit-requires
-settings-fit-requires c κs = search needs
-
-verdict-fits-requires : tie.Need-verdict-fits-requires
-verdict-fits-requires c κs = search needs
-
 returns : tie.Need-returns
 unfolding stageFits
 returns c = rw (c .enum-told .given .1)
@@ -40,11 +22,11 @@ pub stage-fits-spec : {M : Type 1} → statement M
 stage-fits-spec =
     tie.close
     (tie.spec
-    enum-told
-    enum-known-stage
-    is-in-requires
-    all-agree-requires
-    settings-fit-requires
-    verdict-fits-requires
+    (λ c. search needs)
+    (λ c. search needs)
+    (λ c κs. search needs)
+    (λ c κs. search needs)
+    (λ c κs. search needs)
+    (λ c κs. search needs)
     returns
     returns-2)

@@ -5,15 +5,6 @@ use Rattle.model.specs.Sound.{verdictFits}
 use Rattle.sound_groups.proofs.verdict_fits.Statement.{statement}
 use Rattle.sound_groups.proofs.verdict_fits.Tie as tie
 
-enum-known-verdict : tie.Need-enum-known-verdict
-enum-known-verdict c = search needs
-
-is-lane-of-requires : tie.Need-is-lane-of-requires
-is-lane-of-requires c κs = search needs
-
-enum-known-verdict-2 : tie.Need-enum-known-verdict-2
-enum-known-verdict-2 c = search needs
-
 returns : tie.Need-returns
 unfolding verdictFits
 returns c = rw (c .before .before .verdict .given .1, c .is-lane-of .ensures) (or-either _ _)
@@ -25,4 +16,4 @@ returns-2 c = rw (c .before .verdict2 .given .1) (and-both _ _)
 pub verdict-fits-spec : {M : Type 1} → statement M
 verdict-fits-spec =
     tie.close
-    (tie.spec enum-known-verdict is-lane-of-requires enum-known-verdict-2 returns returns-2)
+    (tie.spec (λ c. search needs) (λ c κs. search needs) (λ c. search needs) returns returns-2)

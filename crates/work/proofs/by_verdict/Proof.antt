@@ -3,31 +3,31 @@ use borrow.Author.Needs.{needs}
 use Rattle.bits.specs.Choice.{pick}
 use borrow.Author.Tests.{lt-ltb, le-ltb}
 use mathlib.Core.Path.{refl}
-use Rattle.model.specs.Work.{workedBy}
+use Rattle.model.specs.Work.{workEffectBy}
 use Rattle.work.proofs.by_verdict.Statement.{statement}
 use Rattle.work.proofs.by_verdict.Tie as tie
 
 returns : tie.Need-returns
-unfolding workedBy
+unfolding workEffectBy
 returns c =
     let code = c .before .before .before .rejected .ensures in
     let left = c .before .before .close .ensures in
-    rw (c .before .before .before .before .before .before .verdict .given .1, workedBy)
+    rw (c .before .before .before .before .before .before .verdict .given .1, workEffectBy)
     (record { image = rw code at (left .image); working = rw code at (left .working); mask = refl })
 
 returns-2 : tie.Need-returns-2
-unfolding workedBy pick
+unfolding workEffectBy pick
 returns-2 c =
     let left = c .before .before .copy-next .ensures in
     let lane = lt-ltb _ _ (c .before .before .before .before .if1 .taken) in
-    rw (c .before .before .before .before .before .before .verdict2 .given .1, workedBy, lane, pick)
+    rw (c .before .before .before .before .before .before .verdict2 .given .1, workEffectBy, lane, pick)
     (record { image = left .image; working = left .working; mask = refl })
 
 returns-3 : tie.Need-returns-3
-unfolding workedBy pick
+unfolding workEffectBy pick
 returns-3 c =
     let none = le-ltb _ _ (c .before .before .before .before .if1 .left) in
-    rw (c .before .before .before .before .before .before .verdict2 .given .1, workedBy, none, pick) (c .before .before .close-pass .ensures)
+    rw (c .before .before .before .before .before .before .verdict2 .given .1, workEffectBy, none, pick) (c .before .before .close-pass .ensures)
 
 pub by-verdict-spec : {M : Type 1} → statement M
 by-verdict-spec =

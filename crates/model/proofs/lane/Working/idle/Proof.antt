@@ -4,12 +4,9 @@ use borrow.Author.Needs.{needs}
 use Rattle.model.proofs.lane.Working.idle.Statement.{statement}
 use Rattle.model.proofs.lane.Working.idle.Tie as tie
 
-idle-requires : tie.Need-idle-requires
-idle-requires c κs = search needs
-
 returns : tie.Need-returns
 unfolding tab
 returns c = rw (c .idle .ensures)
 
 pub idle-spec : {M : Type 1} → statement M
-idle-spec = tie.close (tie.spec idle-requires returns)
+idle-spec = tie.close (tie.spec (λ c κs. search needs) returns)

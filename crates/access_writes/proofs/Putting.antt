@@ -1,0 +1,98 @@
+-- A write that touches no trigger leaves the lanes' records, and is put from its first place on. Assumes nothing.
+use mathlib.Core.Path.{_≡_, refl}
+use mathlib.Core.Bool.{false}
+use mathlib.Core.List.{List, [], _∷_}
+use mathlib.Core.Logic.{_⊎_, inl, inr}
+use Prim.Native.Nat.{ℕ, suc, _+_, _-_, _≤_, _<_}
+use native.Mathlib.Nat.{add-zero}
+use native.Mathlib.Numerals.{add-one}
+use native.Mathlib.Omega.{arith}
+use lib.Dec.{eqb, leb, ltb}
+use lib.ListN.{length, getD, drop}
+use lib.Seq.{getD-set-other, drop-cons, drop-length}
+use borrow.Author.Tests.{lt-ltb, le-ltb, ltb-false, leb-false, ne-eqb}
+use Rattle.bits.specs.Choice.{pick, both}
+use Rattle.bits.proofs.Tests.{split}
+use Rattle.model.specs.Map.{Image, writable, applyDPInit, applyImmediate}
+use Rattle.model.specs.Pages.{selectedStart, indexOf}
+use Rattle.model.specs.Access.{storedState, byteWrittenState, bytesWrittenState, halfEnd}
+use Rattle.model.specs.State.{stateWith}
+use Rattle.model.specs.declared.lane.Working.{Working}
+use Rattle.model.proofs.Starts.{start-past}
+use Rattle.access_writes.specs.Puts.{meetsTriggers, bytePut, bytesPut}
+
+-- a place that is no trigger's
+pub stored-other : (i v : ℕ) (x : Image) (w : Working) → (i ≡ applyDPInit → ⊥) → (i ≡ applyImmediate → ⊥)
+    → storedState i v (stateWith x w) ≡ stateWith (bytePut i v x) w
+unfolding storedState bytePut pick
+stored-other i v x w p q = split (eqb i 127)
+    (λ e. rw (e, pick))
+    (λ e. split (writable i) (λ f. rw (e, ne-eqb i applyDPInit p, ne-eqb i applyImmediate q, f, pick)) (λ f. rw (e, ne-eqb i applyDPInit p, ne-eqb i applyImmediate q, f, pick)))
+
+-- a byte put past lower memory leaves the selected page
+page-kept : (i v : ℕ) (x : Image) → 128 ≤ i → selectedStart (bytePut i v x) ≡ selectedStart x
+unfolding bytePut selectedStart pick
+page-kept i v x h = split (writable i)
+    (λ f. rw (ne-eqb i 127 (λ e. omega arith), f, pick, getD-set-other x i 126 v 0 (omega arith), getD-set-other x i 127 v 0 (omega arith)))
+    (λ f. rw (ne-eqb i 127 (λ e. omega arith), f, pick))
+
+-- in lower memory there is no trigger, and an address is its own place
+lower-put : (a : ℕ) (vs : List ℕ) (x : Image) (w : Working) → a + length vs ≤ 128 → bytesWrittenState a vs (stateWith x w) ≡ stateWith (bytesPut a vs x) w
+unfolding bytesWrittenState byteWrittenState bytesPut indexOf pick
+lower-put a [] x w h = refl
+lower-put a (v ∷ vs) x w h =
+    rw (lt-ltb a 128 (omega arith), pick, stored-other a v x w (λ e. omega arith) (λ e. omega arith))
+    (lower-put (suc a) vs (bytePut a v x) w (omega arith))
+
+-- ---- n places from i on, none of them a trigger's
+
+abbrev Clear : ℕ → ℕ → Type 0
+Clear i n = (applyImmediate < i) ⊎ (i + n ≤ applyDPInit)
+
+clear-by : (i n : ℕ) → meetsTriggers i n ≡ false → Clear i n
+unfolding meetsTriggers both
+clear-by i n e = split (leb i applyImmediate)
+    (λ t. inr (ltb-false applyDPInit (i + n) (rw (t, both) at e)))
+    (λ f. inl (leb-false i applyImmediate f))
+
+clear-here : (i n : ℕ) → Clear i (suc n) → (i ≡ applyDPInit → ⊥) × (i ≡ applyImmediate → ⊥)
+clear-here i n (inl l) = (λ e. omega arith, λ e. omega arith)
+clear-here i n (inr l) = (λ e. omega arith, λ e. omega arith)
+
+clear-next : (i n : ℕ) → Clear i (suc n) → Clear (suc i) n
+clear-next i n (inl l) = inl (omega arith)
+clear-next i n (inr l) = inr (omega arith)
+
+-- in upper memory the page stays selected
+upper-put : (a i : ℕ) (vs : List ℕ) (x : Image) (w : Working) → 128 ≤ a → i ≡ selectedStart x + (a - 128) → Clear i (length vs)
+    → bytesWrittenState a vs (stateWith x w) ≡ stateWith (bytesPut i vs x) w
+unfolding bytesWrittenState byteWrittenState bytesPut indexOf pick
+upper-put a i [] x w h e c = refl
+upper-put a i (v ∷ vs) x w h e c =
+    let n = clear-here i (length vs) c in
+    let k = page-kept i v x (omega (arith, start-past x)) in
+    rw (le-ltb a 128 h, pick, ← e, stored-other i v x w (n .0) (n .1))
+    (upper-put (suc a) (suc i) vs (bytePut i v x) w (omega arith) (rw k (omega arith)) (clear-next i (length vs) c))
+
+-- a write that touches no trigger
+pub untriggered : (a : ℕ) (vs : List ℕ) (x : Image) (w : Working) → a + length vs ≤ halfEnd a → meetsTriggers (indexOf x a) (length vs) ≡ false
+    → bytesWrittenState a vs (stateWith x w) ≡ stateWith (bytesPut (indexOf x a) vs x) w
+unfolding indexOf halfEnd pick
+untriggered a vs x w h m = split (ltb a 128)
+    (λ t. let l : a + length vs ≤ 128 = rw (t, pick) at h in rw (t, pick) (lower-put a vs x w l))
+    (λ f. rw (f, pick) (upper-put a (selectedStart x + (a - 128)) vs x w (ltb-false a 128 f) refl (clear-by _ _ (rw (f, pick) at m))))
+
+-- ---- a turn of the loop: the bytes from k on are still to be put, from place i on
+
+module _ (bytes : List ℕ) where
+  pub put-begin : (start offset : ℕ) (x : Image) → bytesPut (start + offset) bytes x ≡ bytesPut (start + (offset + 0)) (drop 0 bytes) x
+  put-begin start offset x = rw add-zero
+
+  pub put-turn : (i j k : ℕ) (x y : Image) → k < length bytes → j ≡ suc i → y ≡ bytePut i (getD bytes k 0) x
+      → bytesPut i (drop k bytes) x ≡ bytesPut j (drop (k + 1) bytes) y
+  unfolding bytesPut
+  put-turn i j k x y l e q = rw (drop-cons bytes k 0 l, add-one, e, q)
+
+  pub put-end : (i : ℕ) (x : Image) → bytesPut i (drop (length bytes) bytes) x ≡ x
+  unfolding bytesPut
+  put-end i x = rw (drop-length bytes)

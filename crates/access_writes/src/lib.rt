@@ -1,0 +1,113 @@
+// A host write: bytes in address order, the upper half on the page selected by then.
+ghost use mathlib.Core.Path.{_≡_};
+ghost use Prim.Native.Nat.{_+_, _^_, _≤_, _<_};
+ghost use lib.ListN.{length, set};
+ghost use Rattle.bits.specs.Choice.{pick};
+ghost use Rattle.model.specs.Map.{writable, imageLength};
+ghost use Rattle.model.specs.Access.{storedState, byteWrittenState, bytesWrittenState, halfEnd};
+ghost use Rattle.contracts.specs.Contracts.{IsState};
+ghost use Rattle.model.specs.State.{stateWith};
+ghost use Rattle.access_writes.specs.Puts.{meetsTriggers, bytePut, bytesPut};
+use model::lane::Trigger;
+use model::lane::Working;
+
+// A byte of a page's 128, which are lent as a part of the image.
+fn store_on_page(page: &mut [u8], offset: usize, v: u8)
+    requires { ⌜ offset < length (now page) ⌝ }
+    ensures { λ _. ⌜ now (page .exit) ≡ set (now (page .entry)) offset v ⌝ }
+{
+    page[offset] = v;
+}
+
+// A byte of the 128 that start at a place of the image: stored if it is writable.
+fn store(image: &mut [u8], start: usize, offset: usize, v: u8)
+    requires { ⌜ (length (now image) ≡ imageLength) × (start + 128 ≤ imageLength) × (offset < 128) ⌝ }
+    ensures { λ _. ⌜ now (image .exit) ≡ pick (writable (start + offset)) (set (now (image .entry)) (start + offset) v) (now (image .entry)) ⌝ }
+{
+    if map::writable(start + offset) {
+        let end = start + map::PAGE_LENGTH;
+        store_on_page(&mut image[start..end], offset, v);
+    }
+}
+
+// A byte put at one of the 128 places from a start on, which is no trigger's.
+fn put_byte(image: &mut [u8], start: usize, offset: usize, v: u8)
+    requires { ⌜ (length (now image) ≡ imageLength) × (start + 128 ≤ imageLength) × (offset < 128) ⌝ }
+    ensures { λ _. ⌜ now (image .exit) ≡ bytePut (start + offset) v (now (image .entry)) ⌝ }
+{
+    if start + offset == pages::PAGE_SELECT {
+        pages::select_page(image, v);
+    } else {
+        store(image, start, offset, v);
+    }
+}
+
+// A byte written to one of the 128 places from a start on.
+fn write_at(image: &mut [u8], w: Working, start: usize, offset: usize, v: u8) -> Working
+    requires { ⌜ (length (now image) ≡ imageLength) × (start + 128 ≤ imageLength) × (offset < 128) ⌝ }
+    ensures { λ r. ⌜ IsState (storedState (start + offset) v (stateWith (now (image .entry)) w)) (now (image .exit)) r ⌝ }
+{
+    let i = start + offset;
+    if i == map::APPLY_DP_INIT {
+        return apply_triggers::trigger(image, w, Trigger::DpInit, map::STAGED_SET_0, v);
+    }
+    if i == map::APPLY_IMMEDIATE {
+        return apply_triggers::trigger(image, w, Trigger::Immediate, map::STAGED_SET_0, v);
+    }
+    put_byte(image, start, offset, v);
+    w
+}
+
+// A byte written to an address.
+fn write_byte(image: &mut [u8], w: Working, address: usize, v: u8) -> Working
+    requires { ⌜ (length (now image) ≡ imageLength) × (address < 256) ⌝ }
+    ensures { λ r. ⌜ IsState (byteWrittenState address v (stateWith (now (image .entry)) w)) (now (image .exit)) r ⌝ }
+{
+    let start = pages::half_start(image, address);
+    write_at(image, w, start, address % map::PAGE_LENGTH, v)
+}
+
+// A write, whatever its bytes touch.
+fn write_each(image: &mut [u8], w: Working, address: u8, bytes: &[u8]) -> Working
+    requires { ⌜ (length (now image) ≡ imageLength) × (address + length (now bytes) ≤ halfEnd address) ⌝ }
+    ensures { λ r. ⌜ IsState (bytesWrittenState address (now (bytes .entry)) (stateWith (now (image .entry)) w)) (now (image .exit)) r ⌝ }
+{
+    let mut next = w;
+    for i in 0..bytes.len() {
+        next = write_byte(image, next, (address as usize) + i, bytes[i]);
+    }
+    next
+}
+
+// Whether one of n places from i on is a trigger's.
+fn meets_triggers(i: usize, n: usize) -> bool
+    requires { ⌜ i + n < 2 ^ 64 ⌝ }
+    ensures { λ r. ⌜ r ≡ meetsTriggers i n ⌝ }
+{
+    (i <= map::APPLY_IMMEDIATE) & (map::APPLY_DP_INIT < i + n)
+}
+
+// The bytes of a write that touches no trigger: its half of memory starts where it did to the end.
+fn put_bytes(image: &mut [u8], start: usize, offset: usize, bytes: &[u8])
+    requires { ⌜ (length (now image) ≡ imageLength) × (start + 128 ≤ imageLength) × (offset + length (now bytes) ≤ 128) ⌝ }
+    ensures { λ _. ⌜ now (image .exit) ≡ bytesPut (start + offset) (now (bytes .entry)) (now (image .entry)) ⌝ }
+{
+    for i in 0..bytes.len() {
+        put_byte(image, start, offset + i, bytes[i]);
+    }
+}
+
+// A write: its bytes, from an address on. The lanes' records go along only where a trigger is touched.
+pub fn write(image: &mut [u8], w: Working, address: u8, bytes: &[u8]) -> Working
+    requires { ⌜ (length (now image) ≡ imageLength) × (address + length (now bytes) ≤ halfEnd address) ⌝ }
+    ensures { λ r. ⌜ IsState (bytesWrittenState address (now (bytes .entry)) (stateWith (now (image .entry)) w)) (now (image .exit)) r ⌝ }
+{
+    let first = address as usize;
+    let start = pages::half_start(image, first);
+    let offset = first % map::PAGE_LENGTH;
+    if meets_triggers(start + offset, bytes.len()) {
+        return write_each(image, w, address, bytes);
+    }
+    put_bytes(image, start, offset, bytes);
+    w
+}

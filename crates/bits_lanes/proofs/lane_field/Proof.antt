@@ -1,0 +1,29 @@
+-- `bits_lanes::lane_field` meets its contract. Assumes nothing.
+use native.Mathlib.Omega.{arith}
+use Prim.Native.Nat.{_*_, _/_, _<_}
+use Rattle.bits.specs.Lane.{laneField}
+use Rattle.bits.proofs.Lanes.{lane-in}
+use borrow.Author.Needs.{needs}
+use Rattle.bits_lanes.proofs.lane_field.Statement.{statement}
+use Rattle.bits_lanes.proofs.lane_field.Tie as tie
+
+-- the lane's bit is one of the field's bytes
+small : (c : tie.Start) → (c .args .lane * c .args .width / 8 < c .args .width) × (c .args .lane * c .args .width < 64)
+unfolding laneField
+small c = let r = lane-in 0 (c .args .width) (c .args .lane) (c .pre .1) (c .pre .2) in (omega arith, omega arith)
+
+mul-bit : tie.Need-mul-bit
+mul-bit c = record { fits = omega (arith, small c) }
+
+cast-t5 : tie.Need-cast-t5
+cast-t5 c = omega (arith, small c)
+
+add-t7 : tie.Need-add-t7
+add-t7 c = omega (arith, small c)
+
+returns : tie.Need-returns
+unfolding laneField
+returns c = search needs
+
+pub lane-field-spec : {M : Type 1} → statement M
+lane-field-spec = tie.close (tie.spec mul-bit cast-t5 add-t7 returns)

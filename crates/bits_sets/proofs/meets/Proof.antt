@@ -1,0 +1,13 @@
+-- `bits_sets::meets` meets its contract. Assumes nothing.
+use native.Mathlib.Omega.{arith}
+use Rattle.bits.proofs.Sets.{shares}
+use Rattle.bits.specs.Sets.{laneCount, someIn}
+use Rattle.bits_sets.proofs.meets.Statement.{statement}
+use Rattle.bits_sets.proofs.meets.Tie as tie
+
+returns : tie.Need-returns
+unfolding someIn
+returns c = shares laneCount _ _ (omega arith)
+
+pub meets-spec : {M : Type 1} → statement M
+meets-spec = tie.close (tie.spec returns)

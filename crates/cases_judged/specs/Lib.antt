@@ -1,0 +1,2 @@
+-- The worked cases of groups, triggers and verdicts.
+pub mod Judged

@@ -1,0 +1,1 @@
+// Worked cases of groups, triggers and verdicts, computed by the checker from the model. No code.

@@ -1,0 +1,109 @@
+-- What a worked case is: an image, its events, and the lines that must be seen, or the bad line of an image that start refuses; or an event that changes nothing
+-- (01 "Both sides of each line").
+use Prim.Native.Nat.{ℕ, suc, _+_}
+use Prim.Native.String.{String}
+use mathlib.Core.Bool.{Bool, true}
+use mathlib.Core.List.{List, [], _∷_, _++_}
+use lib.ListN.{length, set}
+use Rattle.bits.specs.Choice.{pick, both}
+use Rattle.bits.specs.Loop.{tab}
+use Rattle.bits.specs.Word.{putWord}
+use Rattle.model.specs.Map.{Image, imageLength}
+use Rattle.model.specs.Answers.{number, isDone}
+use Rattle.model.specs.Work.{early}
+use Rattle.model.specs.Start.{startedState}
+use Rattle.model.specs.Refusals.{firstOf, startRefusals}
+use Rattle.model.specs.Step.{event, step, run, ending}
+use Rattle.model.specs.Outcome.{listRoom}
+use Rattle.model.specs.Text.{ascii, badLine}
+use Rattle.model.specs.Night.{linesFrom}
+use Rattle.model.specs.declared.answer.Answer.{Answer}
+use Rattle.model.specs.declared.event.Call.the-variants.{Write, Read, Work, Hardware, Condition, Sample}
+use Rattle.model.specs.declared.event.Event.{Event}
+use Rattle.cases_starred.specs.Same.{sameBytes, sameState}
+
+pub record Case : Type 0 where
+  pub image : Image
+  pub events : List Event
+  pub seen : List String
+
+-- each line with its line feed
+unfoldable pub linesOf : List String → List ℕ
+linesOf [] = []
+linesOf (s ∷ ss) = ascii s ++ (0x0a ∷ linesOf ss)
+
+-- what a case shows, by what start answers to its image
+unfoldable pub shownBy : Answer → Case → List ℕ
+shownBy a c = pick (isDone a) (linesFrom 0 (run early listRoom (startedState (c .image)) (c .events))) (badLine (number a))
+
+-- the case is as it should be
+unfoldable pub holds : Case → Bool
+holds c = sameBytes (shownBy (firstOf (startRefusals (c .image))) c) (linesOf (c .seen))
+
+-- from an image, after events, one more is done and leaves the whole state as it was
+unfoldable pub changesNothing : Image → List Event → Event → Bool
+changesNothing x es e =
+    let s = ending early listRoom (startedState x) es in
+    let o = step early listRoom s e in
+    both (isDone (o .answer)) (sameState (o .state) s)
+
+unfoldable pub allHold : List Bool → Bool
+allHold [] = true
+allHold (c ∷ cs) = both c (allHold cs)
+
+-- ---- images
+
+unfoldable pub blank : Image
+blank = tab imageLength (λ i. 0)
+
+-- an image with bytes from a place on
+unfoldable pub holding : ℕ → List ℕ → Image → Image
+holding i [] x = x
+holding i (v ∷ vs) x = holding (suc i) vs (set x i v)
+
+-- Application 1 of 01's example: 4 host lanes, which may begin on lane 0 or 4
+unfoldable pub fourLanes : Image
+fourLanes = holding 88 (0x44 ∷ 0x11 ∷ []) blank
+
+-- where 01 puts address a of pages 00h, 01h and 02h in the image: numbers of the cases' own, so that a wrong one of the map is seen
+abbrev pub on00 : ℕ → ℕ
+on00 a = a
+
+abbrev pub on01 : ℕ → ℕ
+on01 a = a + 128
+
+abbrev pub on02 : ℕ → ℕ
+on02 a = a + 256
+
+-- limits of received power: low alarm, low warning, high warning, high alarm
+unfoldable pub limited : ℕ → ℕ → ℕ → ℕ → Image → Image
+limited alarmBelow warningBelow warningAbove alarmAbove x =
+    putWord 2 (putWord 2 (putWord 2 (putWord 2 x (on02 194) alarmBelow) (on02 198) warningBelow) (on02 196) warningAbove) (on02 192) alarmAbove
+
+-- ---- events
+
+abbrev pub write : ℕ → List ℕ → Event
+write address bytes = event (Write address (length bytes)) bytes
+
+abbrev pub read : ℕ → ℕ → Event
+read address count = event (Read address count) []
+
+abbrev pub work : ℕ → Event
+work lane = event (Work lane) []
+
+abbrev pub hardware : ℕ → Event
+hardware lane = event (Hardware lane) []
+
+abbrev pub condition : ℕ → ℕ → Event
+condition flag mask = event (Condition flag mask) []
+
+abbrev pub sample : ℕ → ℕ → Event
+sample lane power = event (Sample lane power) []
+
+abbrev pub selectPage : ℕ → Event
+selectPage page = write 127 (page ∷ [])
+
+-- stage DPConfig bytes from an address on, trigger ApplyDPInit, take one work step, and read every ConfigStatus
+unfoldable pub applied : ℕ → List ℕ → ℕ → ℕ → List Event
+applied address configs selected lane =
+    selectPage 0x10 ∷ write address configs ∷ write 143 (selected ∷ []) ∷ work lane ∷ selectPage 0x11 ∷ read 202 4 ∷ []

@@ -1,0 +1,4 @@
+-- Worked cases, and the starred ones.
+pub mod Same
+pub mod Case
+pub mod Starred

@@ -1,0 +1,2 @@
+-- That the contract of a call that prints admits one text.
+pub mod OneText

@@ -1,0 +1,108 @@
+// The hardware event that moves a path from state to state, by its signals.
+ghost use mathlib.Core.Path.{_≡_};
+ghost use Prim.Native.Nat.{_<_};
+ghost use lib.ListN.{length};
+ghost use Rattle.bits.specs.Choice.{onlyIf};
+ghost use Rattle.bits.specs.Sets.{has, laneCount};
+ghost use Rattle.model.specs.Map.{stateChangedFlag, imageLength};
+ghost use Rattle.model.specs.PathStates.{resting};
+ghost use Rattle.model.specs.Registers.{withPending, withFlags};
+ghost use Rattle.model.specs.Hardware.{nextState, isInitialized, enteredImage, movedImage, hardwareImage};
+use model::path::PathState;
+use model::path::Signals;
+
+// The state that follows, by the path's signals.
+fn next_state(from: PathState, by: Signals) -> PathState
+    ensures { λ to. ⌜ to ≡ nextState from by ⌝ }
+{
+    match from {
+        PathState::Reserved => PathState::Reserved,
+        PathState::Deactivated => if by.deinit {
+            PathState::Deactivated
+        } else {
+            PathState::Init
+        },
+        PathState::Init => if by.deinit {
+            PathState::Deinit
+        } else {
+            PathState::Initialized
+        },
+        PathState::Deinit => PathState::Deactivated,
+        PathState::Activated => if by.deactivate {
+            PathState::TxTurnOff
+        } else {
+            PathState::Activated
+        },
+        PathState::TxTurnOn => if by.deactivate {
+            PathState::TxTurnOff
+        } else {
+            PathState::Activated
+        },
+        PathState::TxTurnOff => PathState::Initialized,
+        PathState::Initialized => if by.reinit {
+            PathState::Deinit
+        } else if by.deactivate {
+            PathState::Initialized
+        } else {
+            PathState::TxTurnOn
+        },
+    }
+}
+
+// Whether DPInitialized is reached from DPInit.
+fn is_initialized(from: PathState, to: PathState) -> bool
+    ensures { λ r. ⌜ r ≡ isInitialized from to ⌝ }
+{
+    (from.code() == PathState::INIT) & (to.code() == PathState::INITIALIZED)
+}
+
+// What was pending is done once DPInitialized is reached from DPInit.
+fn clear_pending(image: &mut [u8], path: u8, from: PathState, to: PathState)
+    requires { ⌜ length (now image) ≡ imageLength ⌝ }
+    ensures { λ _. ⌜ now (image .exit) ≡ onlyIf (isInitialized from to) (withPending (has path) 0) (now (image .entry)) ⌝ }
+{
+    if is_initialized(from, to) {
+        bits_lanes::clear_bits(image, map::PENDING, path);
+    }
+}
+
+// A resting state sets the lanes' DPStateChanged flags.
+fn flag_change(image: &mut [u8], path: u8, to: PathState)
+    requires { ⌜ length (now image) ≡ imageLength ⌝ }
+    ensures { λ _. ⌜ now (image .exit) ≡ onlyIf (resting to) (withFlags stateChangedFlag path) (now (image .entry)) ⌝ }
+{
+    if view_paths::is_resting(to) {
+        bits_lanes::set_bits(image, map::STATE_CHANGED, path);
+    }
+}
+
+// The path enters a state.
+fn enter(image: &mut [u8], path: u8, from: PathState, to: PathState)
+    requires { ⌜ length (now image) ≡ imageLength ⌝ }
+    ensures { λ _. ⌜ now (image .exit) ≡ enteredImage path from to (now (image .entry)) ⌝ }
+{
+    bits_lanes::put_each(image, map::STATES, 4, path, to.code());
+    clear_pending(image, path, from, to);
+    flag_change(image, path, to);
+}
+
+// A path that stays enters nothing.
+fn move_to(image: &mut [u8], path: u8, from: PathState, to: PathState)
+    requires { ⌜ length (now image) ≡ imageLength ⌝ }
+    ensures { λ _. ⌜ now (image .exit) ≡ movedImage path from to (now (image .entry)) ⌝ }
+{
+    if from.code() != to.code() {
+        enter(image, path, from, to);
+    }
+}
+
+// A hardware event on the path of a lane.
+pub fn move_path(image: &mut [u8], lane: u8)
+    requires { ⌜ (length (now image) ≡ imageLength) × (lane < laneCount) ⌝ }
+    ensures { λ _. ⌜ now (image .exit) ≡ hardwareImage (now (image .entry)) lane ⌝ }
+{
+    let path = view_paths::path_of(image, lane);
+    let from = PathState::of(bits_lanes::nibble(image, map::STATES, lane));
+    let to = next_state(from, hardware_signals::signals_of(image, path));
+    move_to(image, path, from, to);
+}

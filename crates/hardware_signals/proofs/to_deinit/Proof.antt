@@ -1,0 +1,12 @@
+-- `hardware_signals::to_deinit` meets its contract. Assumes nothing.
+use Rattle.model.specs.Hardware.{toDeinit}
+use borrow.Author.Needs.{needs}
+use Rattle.hardware_signals.proofs.to_deinit.Statement.{statement}
+use Rattle.hardware_signals.proofs.to_deinit.Tie as tie
+
+returns : tie.Need-returns
+unfolding toDeinit
+returns c = c .some-bit .ensures
+
+pub to-deinit-spec : {M : Type 1} → statement M
+to-deinit-spec = tie.close (tie.spec (λ c κs. search needs) returns)

@@ -1,0 +1,63 @@
+-- Which bytes two images share, and which values and lanes the laws of single registers speak of.
+use mathlib.Core.Path.{_≡_}
+use mathlib.Core.List.{List}
+use mathlib.Core.Logic.{_⊎_, _≢_}
+use Prim.Native.Nat.{ℕ, _+_, _^_, _≤_, _<_}
+use lib.ListN.{length, getD}
+use Rattle.bits.specs.Sets.{Lane}
+use Rattle.model.specs.Numbers.{Byte, Index}
+use Rattle.model.specs.Map.{Image, page10, stateBytes, statusBytes, pendingByte, flagBytes, settingCount, settingWidths}
+use Rattle.model.specs.View.{settingValues}
+use Rattle.model.specs.declared.lane.Settings.{Settings}
+
+-- ---- ranges of bytes
+
+-- a byte lies below a range or above it
+abbrev pub Beside : ℕ → ℕ → ℕ → Type 0
+Beside lo hi i = (i < lo) ⊎ (hi ≤ i)
+
+-- y has x's length, and x's bytes outside lo .. hi - 1
+pub record SameOutside (lo hi : ℕ) (x y : List ℕ) : Type 0 where
+  pub size : length y ≡ length x
+  pub byte : (i : ℕ) → Beside lo hi i → getD y i 0 ≡ getD x i 0
+
+-- y has x's bytes in lo .. hi - 1
+abbrev pub SameWithin : ℕ → ℕ → List ℕ → List ℕ → Type 0
+SameWithin lo hi x y = (i : ℕ) → lo ≤ i → i < hi → getD y i 0 ≡ getD x i 0
+
+-- where DPState, ConfigStatus and DPInitPending end
+abbrev pub stateEnd : Index
+stateEnd = stateBytes + 4
+
+abbrev pub statusEnd : Index
+statusEnd = statusBytes + 4
+
+abbrev pub pendingEnd : Index
+pendingEnd = pendingByte + 1
+
+-- what the module says of itself and nothing changes: the descriptors of lower memory, and pages 00h, 01h, 02h
+abbrev pub Advertised : ℕ → Type 0
+Advertised i = ((86 ≤ i) × (i < 118)) ⊎ ((128 ≤ i) × (i < page10))
+
+-- y has x's bytes there
+abbrev pub SameAdvertised : Image → Image → Type 0
+SameAdvertised x y = (i : ℕ) → Advertised i → getD y i 0 ≡ getD x i 0
+
+-- y has x's length, and x's bytes but for DPState, DPStateChanged and DPInitPending
+pub record SameOffPath (x y : Image) : Type 0 where
+  pub size : length y ≡ length x
+  pub byte : (i : ℕ) → Beside stateBytes stateEnd i → Beside flagBytes (flagBytes + 1) i → Beside pendingByte pendingEnd i → getD y i 0 ≡ getD x i 0
+
+-- ---- values and lanes
+
+-- a value that fits a nibble
+abbrev pub FitsNibble : Byte → Type 0
+FitsNibble v = v < 16
+
+-- settings that fit their fields
+abbrev pub Fits : Settings → Type 0
+Fits h = (k : ℕ) → k < settingCount → getD (settingValues h) k 0 < 2 ^ getD settingWidths k 0
+
+-- lane m is another than lane l
+abbrev pub OtherLane : Lane → Lane → Type 0
+OtherLane l m = m ≢ l

@@ -1,0 +1,2 @@
+-- What is said of the bytes that a change leaves alone.
+pub mod Frames

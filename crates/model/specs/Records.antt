@@ -1,0 +1,74 @@
+-- The lanes' records: reading them and replacing their stages (01 "The module we ship").
+use mathlib.Core.Bool.{Bool, true, false}
+use lib.ListN.{getD}
+use Rattle.bits.specs.Choice.{pick, both}
+use Rattle.bits.specs.Loop.{tab, anyBelow}
+use Rattle.bits.specs.Sets.{Lane, LaneSet, laneCount, has}
+use Rattle.model.specs.declared.lane.Settings.{Settings}
+use Rattle.model.specs.declared.lane.Verdict.{Verdict}
+use Rattle.model.specs.declared.lane.Verdict.the-variants.{Pass, Reject}
+use Rattle.model.specs.declared.lane.Stage.{Stage}
+use Rattle.model.specs.declared.lane.Stage.the-variants.{Idle, InProgress}
+use Rattle.model.specs.declared.lane.LaneRecord.{LaneRecord}
+use Rattle.model.specs.declared.lane.Working.{Working}
+
+abbrev pub noSettings : Settings
+noSettings = record { config = 0; adaptive = 0; equalizer = 0; «cdr_tx» = 0; «cdr_rx» = 0; pre = 0; post = 0; amplitude = 0 }
+
+abbrev pub idleRecord : LaneRecord
+idleRecord = record { stage = Idle }
+
+abbrev pub idleWorking : Working
+idleWorking = record { lanes = tab laneCount (λ l. idleRecord) }
+
+-- ---- reading
+
+abbrev pub recordAt : Working → Lane → LaneRecord
+recordAt w l = getD (w .lanes) l idleRecord
+
+abbrev pub stageAt : Working → Lane → Stage
+stageAt w l = recordAt w l .stage
+
+unfoldable pub isInProgress : Stage → Bool
+isInProgress Idle = false
+isInProgress (InProgress p) = true
+
+unfoldable pub isPass : Verdict → Bool
+isPass (Pass n) = true
+isPass (Reject c) = false
+
+-- the lane belongs to a passing group
+unfoldable pub isPassing : Stage → Bool
+isPassing Idle = false
+isPassing (InProgress p) = isPass (p .verdict)
+
+-- the settings that a lane's record holds
+unfoldable pub heldIn : Stage → Settings
+heldIn Idle = noSettings
+heldIn (InProgress p) = p .held
+
+-- a lane of the set is in progress
+unfoldable pub anyInProgress : Working → (Lane → Bool) → Bool
+anyInProgress w c = anyBelow laneCount (λ m. both (c m) (isInProgress (stageAt w m)))
+
+-- ---- replacing
+
+unfoldable pub withStage : LaneRecord → Stage → LaneRecord
+withStage r s = record { stage = s }
+
+-- every lane's stage replaced
+unfoldable pub withStages : Working → (Lane → Stage) → Working
+withStages w f = record { lanes = tab laneCount (λ l. withStage (recordAt w l) (f l)) }
+
+-- the group's lanes idle again
+unfoldable pub freedWorking : Working → LaneSet → Working
+freedWorking w g = withStages w (λ l. pick (has g l) Idle (stageAt w l))
+
+-- the stage with another verdict; an idle one stays
+unfoldable pub withVerdict : Stage → Verdict → Stage
+withVerdict Idle v = Idle
+withVerdict (InProgress p) v = InProgress (record { group = p .group; held = p .held; trigger = p .trigger; verdict = v })
+
+-- the group's next lane is n
+unfoldable pub advancedWorking : Working → LaneSet → Lane → Working
+advancedWorking w g n = withStages w (λ l. pick (has g l) (withVerdict (stageAt w l) (Pass n)) (stageAt w l))

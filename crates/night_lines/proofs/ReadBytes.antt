@@ -1,0 +1,160 @@
+-- Laws of what a step shows: a read that is done shows its count of bytes, never more than fit a read; any other event shows none. Assumes nothing.
+use mathlib.Core.Path.{_≡_, refl, sym, ap, _∙_}
+use mathlib.Core.Bool.{Bool, true, false}
+use mathlib.Core.List.{List, [], _∷_}
+use Prim.Native.Nat.{ℕ, _≤_, _<_}
+use native.Mathlib.Omega.{arith}
+use lib.Dec.{ltb}
+use lib.ListN.{length, take, drop}
+use lib.Seq.{take-at}
+use borrow.Author.Tests.{ltb-false}
+use Rattle.night_text.specs.Buffer.{lineRoom}
+use Rattle.model.specs.File.{recordLimit}
+use Rattle.bits.specs.Choice.{pick}
+use Rattle.bits.proofs.Tests.{split, clash, either-l, either-r, pick-true, pick-false}
+use Rattle.bits.proofs.Loops.{length-tab}
+use Rattle.model.specs.Answers.{number, isDone}
+use Rattle.model.specs.State.{State}
+use Rattle.model.specs.Effect.{Effect}
+use Rattle.model.specs.Work.{Mode, early, workEffect, workEffectOn, workEffectBy, closingEffect}
+use Rattle.model.specs.Access.{takenBytes, isBadAccess, readLimit}
+use Rattle.model.specs.Refusals.{Refusal, refuse, firstOf, eventRefusals}
+use Rattle.model.specs.Step.{readEffect, eventEffect, doneStep, refusedStep, answeredStep, step}
+use Rattle.model.specs.Outcome.{laidOver, listRoom}
+use Rattle.model.specs.Text.{line}
+use Rattle.model.specs.Records.{stageAt}
+use Rattle.model.specs.declared.answer.Answer.{Answer}
+use Rattle.model.specs.declared.answer.Answer.the-variants.{Done, WrongLength, FlatMemory, Unsound, BadAccess, ShortBuffer, NothingToDo, Busy, NoSuchTarget, Malformed, BackToFront}
+use Rattle.model.specs.declared.event.Call.{Call}
+use Rattle.model.specs.declared.event.Call.the-variants.{Write, Read, Work, Hardware, Condition, Sample}
+use Rattle.model.specs.declared.event.Event.{Event}
+use Rattle.model.specs.declared.lane.Stage.{Stage}
+use Rattle.model.specs.declared.lane.Stage.the-variants.{Idle, InProgress}
+use Rattle.model.specs.declared.lane.Trigger.{Trigger}
+use Rattle.model.specs.declared.lane.Verdict.{Verdict}
+use Rattle.model.specs.declared.lane.Verdict.the-variants.{Pass, Reject}
+use Rattle.night_text.proofs.Lines.{line-most}
+use Rattle.night_lines.specs.Lines.{readCount, shownBy}
+
+-- a work step shows nothing
+worked-by-none : (v : Verdict) (mode : Mode) (s : State) (g : ℕ) (t : Trigger) → workEffectBy v mode s g t .bytes ≡ []
+unfolding workEffectBy closingEffect pick
+worked-by-none (Reject code) mode s g t = refl
+worked-by-none (Pass n) mode s g t = split (ltb n 8) (λ e. rw (e, pick)) (λ e. rw (e, pick))
+
+worked-on-none : (g : Stage) (mode : Mode) (s : State) → workEffectOn g mode s .bytes ≡ []
+unfolding workEffectOn
+worked-on-none Idle mode s = refl
+worked-on-none (InProgress p) mode s = worked-by-none (p .verdict) mode s (p .group) (p .trigger)
+
+-- what an event shows that is carried out
+carried-shows : (mode : Mode) (s : State) (bytes : List ℕ) (call : Call) → length (eventEffect mode s bytes call .bytes) ≡ readCount call
+unfolding eventEffect readCount readEffect takenBytes workEffect
+carried-shows mode s bytes (Write address count) = refl
+carried-shows mode s bytes (Read address count) = length-tab count _
+carried-shows mode s bytes (Work l) = ap length (worked-on-none (stageAt (s .working) l) mode s)
+carried-shows mode s bytes (Hardware l) = refl
+carried-shows mode s bytes (Condition flag mask) = refl
+carried-shows mode s bytes (Sample l p) = refl
+
+-- the first of some refusals is no done answer if it applies
+first-refused : (room : ℕ) (s : State) (address count : ℕ) → isDone (firstOf (eventRefusals room s (Read address count))) ≡ true
+    → isBadAccess readLimit address count ≡ false
+unfolding firstOf eventRefusals isDone pick
+first-refused room s address count d = split (isBadAccess readLimit address count) (λ e. absurd (clash (rw (e, pick) at d) refl)) (λ e. e)
+
+-- a call that is not refused reads no more than fit
+read-most : (room : ℕ) (s : State) (call : Call) → isDone (firstOf (eventRefusals room s call)) ≡ true → readCount call ≤ 128
+unfolding readCount isBadAccess
+read-most room s (Write address count) d = omega arith
+read-most room s (Read address count) d =
+    ltb-false readLimit count (either-l _ _ (either-r _ _ (first-refused room s address count d)))
+read-most room s (Work l) d = omega arith
+read-most room s (Hardware l) d = omega arith
+read-most room s (Condition flag mask) d = omega arith
+read-most room s (Sample l p) d = omega arith
+
+-- an answer, and what is shown with it
+module _ (a : Answer) (s : State) (c : Effect) where
+  answered-answer : answeredStep a s c .answer ≡ a
+  unfolding answeredStep doneStep refusedStep pick
+  answered-answer = split (isDone a) (λ e. rw (e, pick)) (λ e. rw (e, pick))
+
+  answered-shows : length (answeredStep a s c .bytes) ≡ pick (isDone a) (length (c .bytes)) 0
+  unfolding answeredStep doneStep refusedStep pick
+  answered-shows = split (isDone a) (λ e. rw (e, pick)) (λ e. rw (e, pick))
+
+module _ (room : ℕ) (s : State) (e : Event) where
+  abbrev answerOf : Answer
+  answerOf = firstOf (eventRefusals room s (e .call))
+
+  step-answer : step early room s e .answer ≡ answerOf
+  unfolding step
+  step-answer = answered-answer answerOf s (eventEffect early s (e .bytes) (e .call))
+
+  step-length : length (step early room s e .bytes) ≡ pick (isDone answerOf) (readCount (e .call)) 0
+  unfolding step
+  step-length = answered-shows answerOf s (eventEffect early s (e .bytes) (e .call)) ∙ rw (carried-shows early s (e .bytes) (e .call))
+
+  -- the answer's number and the call tell how many bytes a step shows
+  pub step-shows : length (step early room s e .bytes) ≡ shownBy (number (step early room s e .answer)) (e .call)
+  unfolding shownBy isDone
+  step-shows = rw step-answer step-length
+
+  pub step-most : length (step early room s e .bytes) ≤ 128
+  step-most = split (isDone answerOf)
+      (λ d. rw (step-length, pick-true (readCount (e .call)) 0 d) (read-most room s (e .call) d))
+      (λ d. rw (step-length, pick-false (readCount (e .call)) 0 d) (omega arith))
+
+-- an event is answered with a digit
+digit-or : (a : Answer) (c : Bool) (rs : List Refusal) → number a < 10 → number (firstOf rs) < 10 → number (firstOf (refuse a c ∷ rs)) < 10
+unfolding firstOf pick
+digit-or a true rs h r = h
+digit-or a false rs h r = r
+
+none-digit : number (firstOf []) < 10
+unfolding firstOf
+none-digit = omega arith
+
+event-digit : (room : ℕ) (s : State) (call : Call) → number (firstOf (eventRefusals room s call)) < 10
+unfolding eventRefusals
+event-digit room s (Write address count) = digit-or _ _ _ (omega arith) none-digit
+event-digit room s (Read address count) = digit-or _ _ _ (omega arith) (digit-or _ _ _ (omega arith) none-digit)
+event-digit room s (Work l) = digit-or _ _ _ (omega arith) (digit-or _ _ _ (omega arith) none-digit)
+event-digit room s (Hardware l) = digit-or _ _ _ (omega arith) (digit-or _ _ _ (omega arith) (digit-or _ _ _ (omega arith) none-digit))
+event-digit room s (Condition flag mask) = digit-or _ _ _ (omega arith) none-digit
+event-digit room s (Sample l p) = digit-or _ _ _ (omega arith) none-digit
+
+step-digit : (room : ℕ) (s : State) (e : Event) → number (step early room s e .answer) < 10
+step-digit room s e = rw (step-answer room s e) (event-digit room s (e .call))
+
+-- every answer's number has at most two digits
+pub number-lt : (a : Answer) → number a < 100
+number-lt Done = omega arith
+number-lt WrongLength = omega arith
+number-lt FlatMemory = omega arith
+number-lt Unsound = omega arith
+number-lt BadAccess = omega arith
+number-lt ShortBuffer = omega arith
+number-lt NothingToDo = omega arith
+number-lt Busy = omega arith
+number-lt NoSuchTarget = omega arith
+number-lt Malformed = omega arith
+number-lt BackToFront = omega arith
+
+-- the line of a step, from what it left: its answer's number, and the first bytes of its buffer
+module _ (s : State) (e : Event) (a n : ℕ) (buffer left : List ℕ) (buffered : left ≡ laidOver (step early listRoom s e .bytes) buffer)
+    (numbered : a ≡ number (step early listRoom s e .answer)) (counted : n ≡ shownBy a (e .call)) where
+  shown-count : n ≡ length (step early listRoom s e .bytes)
+  shown-count = counted ∙ rw numbered (sym (step-shows listRoom s e))
+
+  pub shown-most : n ≤ 128
+  shown-most = rw shown-count (step-most listRoom s e)
+
+  pub shown-line : (k : ℕ) → line k a (take n left) ≡ line k (number (step early listRoom s e .answer)) (step early listRoom s e .bytes)
+  unfolding laidOver
+  shown-line k = rw (buffered, take-at (step early listRoom s e .bytes) (drop (length (step early listRoom s e .bytes)) buffer) n (sym shown-count), numbered)
+
+-- and how long it is at most
+pub line-fits : (s : State) (e : Event) (k : ℕ) → k < recordLimit → length (line k (number (step early listRoom s e .answer)) (step early listRoom s e .bytes)) ≤ lineRoom
+line-fits s e k h = line-most k _ _ (omega arith) (step-digit listRoom s e) (step-most listRoom s e)

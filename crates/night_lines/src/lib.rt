@@ -1,0 +1,65 @@
+// One record of a night file: its event, and then its line.
+ghost use mathlib.Core.Path.{_≡_};
+ghost use Prim.Native.Nat.{_+_, _≤_, _<_};
+ghost use lib.ListN.{length};
+ghost use Rattle.model.specs.Work.{early};
+ghost use Rattle.model.specs.Step.{step};
+ghost use Rattle.model.specs.State.{stateWith};
+ghost use Rattle.model.specs.Outcome.{listRoom};
+ghost use Rattle.model.specs.File.{eventAt, recordEnd, recordLimit};
+ghost use Rattle.night_lines.specs.Lines.{shownBy, Turns};
+ghost use Rattle.model.specs.Map.{imageLength};
+ghost use Rattle.night_text.specs.Buffer.{lineRoom};
+ghost use Rattle.model.specs.Access.{readLimit};
+use model::event::Call;
+use model::lane::Working;
+
+// How far a replay has come: the bytes printed, and what the module keeps beside its image.
+pub struct Reached {
+    pub at: usize,
+    pub working: Working,
+}
+
+// How many bytes the line of an event shows, by its answer's number.
+fn shown(answer: u8, call: Call) -> usize
+    ensures { λ r. ⌜ r ≡ shownBy answer call ⌝ }
+{
+    if answer != 0 {
+        return 0;
+    }
+    match call {
+        Call::Write {
+            address: _,
+            count: _,
+        } => 0,
+        Call::Read { address: _, count } => count as usize,
+        Call::Work { lane: _ } => 0,
+        Call::Hardware { lane: _ } => 0,
+        Call::Condition { flag: _, mask: _ } => 0,
+        Call::Sample { lane: _, power: _ } => 0,
+    }
+}
+
+// A record's turn: its event, then its line.
+pub fn turn(
+    image: &mut [u8],
+    reached: Reached,
+    buffer: &mut [u8],
+    file: &[u8],
+    k: u32,
+    out: &mut [u8],
+) -> Reached
+    requires { ⌜ (length (now image) ≡ imageLength) × (length (now buffer) ≡ readLimit) × (recordEnd k ≤ length (now file)) × (k < recordLimit) × (reached .at + lineRoom ≤ length (now out)) ⌝ }
+    ensures { λ r. ⌜ Turns (step early listRoom (stateWith (now (image .entry)) (reached .working)) (eventAt (now (file .entry)) k)) k (reached .at) (now (buffer .entry)) (now (buffer .exit)) (now (out .entry)) (now (out .exit)) (now (image .exit)) r ⌝ }
+{
+    let event = night_file::event_at(file, k);
+    let call = event.call;
+    let at = reached.at;
+    let left = step::step(image, reached.working, event, buffer);
+    let working = left.working;
+    let answer = left.answer;
+    let number = answer.number();
+    let count = shown(number, call);
+    let at = night_text::put_line(out, at, k, number, buffer, count);
+    Reached { at, working }
+}

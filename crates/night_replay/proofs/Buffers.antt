@@ -1,0 +1,50 @@
+-- Laws of the buffers of a replay: the copy of a file's image, and the text over the front of what was lent. Assumes nothing.
+use mathlib.Core.Path.{_≡_, sym, ap, _∙_}
+use mathlib.Core.List.{List, _++_, append-nil}
+use Prim.Native.Nat.{ℕ, suc, _+_, _≤_, _<_}
+use native.Mathlib.Nat.{zero-add}
+use native.Mathlib.Numerals.{add-one}
+use native.Mathlib.Omega.{arith}
+use lib.Dec.{ltb}
+use lib.ListN.{length, getD, set, take, drop, drop-of-length-le, length-append, length-drop}
+use lib.Seq.{length-take-le, take-suc, drop-cons, append-snoc, set-at}
+use borrow.Author.Tests.{lt-ltb, le-ltb}
+use Rattle.bits.proofs.Tests.{split, pick-true, pick-false}
+use Rattle.model.specs.Outcome.{laidOver}
+use Rattle.night_text.specs.Buffer.{laidAt, Puts}
+use Rattle.contracts.specs.Texts.{answerFor, leftIn, Gives}
+use Rattle.contracts.specs.declared.Replayed.the-variants.{ShortBuffer, Printed}
+
+-- a turn of a copy: one element more of the source, one less of what was there
+pub copy-turn : (s d : List ℕ) (i : ℕ) → i < length s → i < length d → set (take i s ++ drop i d) i (getD s i 0) ≡ take (i + 1) s ++ drop (i + 1) d
+copy-turn s d i h g =
+    rw (add-one i, drop-cons d i 0 g, set-at (take i s) (getD d i 0) (drop (suc i) d) (getD s i 0) i (length-take-le i s (omega arith)), take-suc s i 0 h)
+    (sym (append-snoc (take i s) (getD s i 0) (drop (suc i) d)))
+
+pub copy-whole : (s d : List ℕ) (n : ℕ) → length d ≤ n → take n s ++ drop n d ≡ take n s
+copy-whole s d n h = rw (drop-of-length-le d {i = n} h) (append-nil (take n s))
+
+-- text from the front on lies over the front
+laid-front : (text buffer : List ℕ) → laidAt 0 text buffer ≡ laidOver text buffer
+unfolding laidAt laidOver
+laid-front text buffer = rw (zero-add (length text))
+
+pub gives-none : {room : ℕ} {text before : List ℕ} → length before < room → Gives room text before before ShortBuffer
+unfolding answerFor leftIn
+gives-none h = record { answer = sym (pick-true _ _ (lt-ltb _ _ h)); buffer = sym (pick-true _ _ (lt-ltb _ _ h)) }
+
+pub gives-text : {room n : ℕ} {text before after : List ℕ} → room ≤ length before → Puts 0 text before after n → Gives room text before after (Printed n)
+unfolding answerFor leftIn
+gives-text {room} {n} {text} {before} h p =
+    record {
+      answer = ap Printed (p .next ∙ zero-add (length text)) ∙ sym (pick-false _ _ (le-ltb _ _ h));
+      buffer = p .buffer ∙ laid-front text before ∙ sym (pick-false _ _ (le-ltb _ _ h));
+    }
+
+-- the count that is answered lies within the buffer
+pub gives-fits : (room : ℕ) (text before after : List ℕ) (n : ℕ) → length after ≡ length before → Gives room text before after (Printed n) → n ≤ length after
+unfolding answerFor leftIn laidOver
+gives-fits room text before after n l g = split (ltb (length before) room)
+    (λ e. let q = g .answer ∙ pick-true _ _ e in let z : _≡_ {A = ℕ} 0 1 = cc q in absurd (omega arith))
+    (λ e. let q = g .answer ∙ pick-false _ _ e in let m : n ≡ length text = cc q in
+    let b = ap length (g .buffer ∙ pick-false _ _ e) ∙ length-append text (drop (length text) before) in omega (arith, length-drop (length text) before))

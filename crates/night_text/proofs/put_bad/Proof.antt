@@ -1,0 +1,30 @@
+-- `night_text::put_bad` meets its contract: three puts are the line. Assumes nothing.
+use native.Mathlib.Omega.{arith}
+use Rattle.model.specs.Text.{ascii, badLine}
+use Rattle.night_text.proofs.Laid.{puts-then}
+use Rattle.night_text.proofs.Lines.{bad-room}
+use borrow.Author.Needs.{needs}
+use Rattle.night_text.proofs.put_bad.Statement.{statement}
+use Rattle.night_text.proofs.put_bad.Tie as tie
+
+put-bad-word-requires : tie.Need-put-bad-word-requires
+put-bad-word-requires c κs = omega (arith, bad-room (c .before .before .args .answer))
+
+put-decimal-requires : tie.Need-put-decimal-requires
+unfolding ascii
+put-decimal-requires c κs = omega (arith, bad-room (c .before .before .before .before .before .before .args .answer))
+
+put-byte-requires : tie.Need-put-byte-requires
+unfolding ascii
+put-byte-requires c κs = omega (arith, bad-room (c .before .before .before .before .before .before .before .before .before .before .args .answer))
+
+returns : tie.Need-returns
+unfolding badLine ascii
+returns c =
+    let room = bad-room (c .before .before .before .before .before .before .before .before .before .before .before .before .before .args .answer) in
+    puts-then (omega arith) (puts-then (omega arith) (c .before .before .before .before .before .before .before .before .before .before .put-bad-word .ensures) (c .before .before .before .before .before .before .put-decimal .ensures)) (c .before .before .put-byte .ensures)
+
+pub put-bad-spec : {M : Type 1} → statement M
+put-bad-spec =
+    tie.close
+    (tie.spec put-bad-word-requires put-decimal-requires put-byte-requires (λ c. search needs) returns)

@@ -1,0 +1,38 @@
+-- `night_text::put_bad_word` meets its contract. Assumes nothing.
+use mathlib.Core.Path.{refl}
+use native.Mathlib.Omega.{arith}
+use native.Mathlib.Numerals.{unary-clauses}
+use lib.ListN.{length-set}
+use Rattle.model.specs.Text.{ascii}
+use Rattle.night_text.proofs.Laid.{laid-sets}
+use borrow.Author.Needs.{needs}
+use Rattle.night_text.proofs.put_bad_word.Statement.{statement}
+use Rattle.night_text.proofs.put_bad_word.Tie as tie
+
+slice-write-out-2 : tie.Need-slice-write-out-2
+slice-write-out-2 c = simp length-set (search needs)
+
+slice-write-out-3 : tie.Need-slice-write-out-3
+slice-write-out-3 c = simp length-set (search needs)
+
+slice-write-out-4 : tie.Need-slice-write-out-4
+slice-write-out-4 c = simp length-set (search needs)
+
+returns : tie.Need-returns
+unfolding ascii
+returns c = record { buffer = simp unary-clauses (laid-sets (c .args .at) (ascii "bad ") _ (omega arith)); next = refl }
+
+pub put-bad-word-spec : {M : Type 1} → statement M
+put-bad-word-spec =
+    tie.close
+    (tie.spec
+    (λ c. search needs)
+    (λ c. search needs)
+    slice-write-out-2
+    (λ c. search needs)
+    slice-write-out-3
+    (λ c. search needs)
+    slice-write-out-4
+    (λ c. search needs)
+    (λ c. search needs)
+    returns)

@@ -1,0 +1,15 @@
+-- `pages_window::shown` meets its contract. Assumes nothing.
+use mathlib.Core.Path.{sym}
+use Rattle.pages_window.proofs.Taking.{shown-trigger, shown-byte}
+use borrow.Author.Needs.{needs}
+use Rattle.pages_window.proofs.shown.Statement.{statement}
+use Rattle.pages_window.proofs.shown.Tie as tie
+
+returns : tie.Need-returns
+returns c = sym (shown-trigger _ _ (c .if1 .taken))
+
+returns-2 : tie.Need-returns-2
+returns-2 c = sym (shown-byte _ _ (c .if1 .left))
+
+pub shown-spec : {M : Type 1} → statement M
+shown-spec = tie.close (tie.spec (λ c. search needs) returns returns-2)

@@ -1,0 +1,14 @@
+-- `sound::status_tells` meets its contract. Assumes nothing.
+use borrow.Author.Needs.{needs}
+use Rattle.model.specs.Sound.{statusTells}
+use Rattle.sound.proofs.Conditions.{same-by}
+use Rattle.sound.proofs.status_tells.Statement.{statement}
+use Rattle.sound.proofs.status_tells.Tie as tie
+
+returns : tie.Need-returns
+unfolding statusTells
+returns c = rw (c .before .before .nibble .ensures, c .is-in-progress .ensures, c .before .stage-at .ensures) (same-by _ _)
+
+pub status-tells-spec : {M : Type 1} → statement M
+status-tells-spec =
+    tie.close (tie.spec (λ c κs. search needs) (λ c κs. search needs) (λ c κs. search needs) returns)

@@ -1,2 +1,0 @@
--- The starred cases, computed.
-pub mod Starred

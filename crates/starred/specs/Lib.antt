@@ -1,3 +1,0 @@
--- Worked cases, and the starred ones.
-pub mod Case
-pub mod Starred

@@ -1,0 +1,64 @@
+-- `step_host::write` meets its contract. Assumes nothing.
+use borrow.Author.Needs.{needs}
+use mathlib.Core.Path.{refl, sym, ap, _∙_}
+use native.Mathlib.Omega.{arith}
+use Rattle.model.specs.Answers.{isDone}
+use Rattle.model.specs.Step.{eventEffect}
+use Rattle.model.specs.Outcome.{laidOver}
+use Rattle.model.specs.declared.answer.Answer.the-variants.{BadAccess}
+use Rattle.access_limits.proofs.Halves.{good-access}
+use Rattle.step_answers.proofs.Outcomes.{refused-leaves, done-leaves, length-taken}
+use Rattle.step_answers.proofs.Answered.{write-bad, write-done}
+use Rattle.step_host.proofs.write.Statement.{statement}
+use Rattle.step_host.proofs.write.Tie as tie
+
+returns : tie.Need-returns
+unfolding isDone
+returns c = refused-leaves _ _ _ _ BadAccess _ (write-bad _ _ _ _ (sym (c .before .before .bad-access .ensures) ∙ c .before .if1 .taken)) refl (c .reply .ensures)
+
+array-share-prefix-bytes : tie.Need-array-share-prefix-bytes
+array-share-prefix-bytes c =
+    let eight = c .before .before .before .before .good .1 .1 .1 .1 .0 .1 .0 .1 in
+    let g = good-access 8 _ _ (sym (c .before .before .bad-access .ensures) ∙ c .before .if1 .left) in
+    omega arith
+
+slice-aggregate-write : tie.Need-slice-aggregate-write
+slice-aggregate-write c =
+    let eight = c .before .before .before .before .before .good .1 .1 .1 .1 .0 .1 .0 .1 in
+    let g = good-access 8 _ _ (sym (c .before .before .before .bad-access .ensures) ∙ c .before .before .if1 .left) in
+    length-taken _ _ (omega arith)
+
+write-requires : tie.Need-write-requires
+write-requires c κs =
+    let eight = c .before .before .before .before .before .good .1 .1 .1 .1 .0 .1 .0 .1 in
+    let g = good-access 8 _ _ (sym (c .before .before .before .bad-access .ensures) ∙ c .before .before .if1 .left) in
+    let n = length-taken (c .before .before .before .before .before .args .count) (c .before .before .before .before .before .args .t5) (omega arith) in
+    (search needs, omega arith)
+
+returns-2 : tie.Need-returns-2
+unfolding eventEffect laidOver
+returns-2 c = let w = c .before .before .before .before .before .before .before .write .ensures in
+    done-leaves _ _ _ _ _ _ _ _ _
+    (write-done _ _ _ _ (sym (c .before .before .before .before .before .before .before .before .before .before .before .bad-access .ensures) ∙ c .before .before .before .before .before .before .before .before .before .before .if1 .left))
+    refl
+    (ap (λ t. t .answer) (c .reply2 .ensures))
+    (w .image)
+    (c .before .before .before .settle .ensures)
+    (ap (λ t. t .working) (c .reply2 .ensures) ∙ w .working)
+    refl
+    (ap (λ t. t .mask) (c .reply2 .ensures))
+
+pub write-spec : {M : Type 1} → statement M
+write-spec =
+    tie.close
+    (tie.spec
+    (λ c κs. search needs)
+    (λ c κs. search needs)
+    returns
+    array-share-prefix-bytes
+    slice-aggregate-write
+    write-requires
+    (λ c κs. search needs)
+    (λ c κs. search needs)
+    (λ c. search needs)
+    returns-2)

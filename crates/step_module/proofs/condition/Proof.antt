@@ -1,0 +1,41 @@
+-- `step_module::condition` meets its contract. Assumes nothing.
+use borrow.Author.Needs.{needs}
+use mathlib.Core.Path.{refl, sym, _∙_}
+use borrow.Author.Tests.{not-true, not-false}
+use Rattle.model.specs.Answers.{isDone}
+use Rattle.model.specs.Step.{eventEffect}
+use Rattle.model.specs.declared.answer.Answer.the-variants.{NoSuchTarget}
+use Rattle.flags.proofs.Conditions.{condition-upper}
+use Rattle.step_answers.proofs.Outcomes.{refused-leaves, image-leaves}
+use Rattle.step_answers.proofs.Answered.{condition-nowhere, condition-done}
+use Rattle.step_module.proofs.condition.Statement.{statement}
+use Rattle.step_module.proofs.condition.Tie as tie
+
+returns : tie.Need-returns
+unfolding isDone
+returns c =
+    refused-leaves _ _ _ _ NoSuchTarget _
+    (condition-nowhere _ _ _ _ (sym (c .before .before .is-condition-flag .ensures) ∙ not-true _ (c .before .if1 .taken)))
+    refl (c .reply .ensures)
+
+condition-requires : tie.Need-condition-requires
+condition-requires c κs = (search needs, condition-upper _ (sym (c .before .before .is-condition-flag .ensures) ∙ not-false _ (c .before .if1 .left)))
+
+returns-2 : tie.Need-returns-2
+unfolding eventEffect
+returns-2 c =
+    let known = sym (c .before .before .before .before .before .before .before .before .before .before .is-condition-flag .ensures) ∙ not-false _ (c .before .before .before .before .before .before .before .before .before .if1 .left) in
+    image-leaves _ _ _ _ _ _ _ _ (condition-done _ _ _ _ known) refl (c .before .before .before .before .before .before .before .condition .ensures) (c .before .before .before .settle .ensures) (c .reply2 .ensures)
+
+pub condition-spec : {M : Type 1} → statement M
+condition-spec =
+    tie.close
+    (tie.spec
+    (λ c κs. search needs)
+    (λ c κs. search needs)
+    returns
+    condition-requires
+    (λ c κs. search needs)
+    (λ c κs. search needs)
+    (λ c. search needs)
+    returns-2)
