@@ -15,7 +15,9 @@ use Rattle.bits.specs.declared.Place.{Place}
 use Rattle.bits.proofs.Tests.{clash, both-l, both-r, pick-true, pick-false}
 use Rattle.bits.proofs.Number.{field-past}
 use Rattle.bits.proofs.Loops.{all-at, tab-at, length-tab}
+use Rattle.bits.specs.Sets.{laneCount}
 use Rattle.model.specs.Map.{Image, inRanges, kept, activeSet, statusAt, pendingAt, stateAt, settingAt, imageLength, page11, stateBytes, statusBytes, pendingByte, pageLength}
+use Rattle.model.specs.Statuses.{undefined}
 use Rattle.model.specs.Records.{stageAt, isInProgress}
 use Rattle.model.specs.View.{settingsAt, settingsOf, of, appSel, isUsed}
 use Rattle.model.specs.Start.{allDeactivated, isStateByte, startValue, startByte, startedState}
@@ -89,13 +91,17 @@ start-idle : (x : Image) (l : ℕ) → l < 8 → isInProgress (stageAt (startedS
 unfolding startedState isInProgress
 start-idle x l b = ap isInProgress (idle-stage l b)
 
+-- ConfigStatus: no Apply since start
+pub start-undefined : (x : Image) (l : ℕ) → l < laneCount → get (startedState x .image) (statusAt l) ≡ undefined
+start-undefined x l b = zero-place x (statusAt l) (omega (arith, lane-from statusBytes 4 l b refl)) (omega (arith, lane-to statusBytes 4 l b refl))
+
 pub start-well : (x : Image) → Well (getD x 2 0) (startedState x)
 unfolding startedState startByte
 start-well x = record {
   size = length-tab imageLength (startByte x);
   low = start-byte x 2 (omega arith) ∙ pick-true _ _ kept-two;
   sound = record {
-    told = λ l b. rw (zero-place x (statusAt l) (omega (arith, lane-from statusBytes 4 l b refl)) (omega (arith, lane-to statusBytes 4 l b refl))) (sym (start-idle x l b));
+    told = λ l b. rw (start-undefined x l b) (sym (start-idle x l b));
     grouped = λ l p b e. absurd (not-idle (idle-stage l b) e);
     used = λ l b f u. absurd (clash u (start-unused x l b));
     unused = λ l b f u. record {

@@ -20,7 +20,7 @@ use Rattle.model.specs.State.{stateWith}
 use Rattle.laws_whole.specs.Whole.{Alike}
 use Rattle.laws_frames.proofs.Registers.{advertised-below, settings-same, applications-same}
 use Rattle.laws_frames.proofs.Changes.{status-outside, pending-outside, off-advertised, hardware-off}
-use Rattle.laws_sound.proofs.Quiet.{Free, Quiet, advertised-kept, set-quiet, selected-quiet, settled-quiet, sampled-quiet, condition-quiet, cleared-quiet}
+use Rattle.laws_sound.proofs.Quiet.{Quiet, advertised-kept, lane-kept, set-quiet, selected-quiet, settled-quiet, sampled-quiet, condition-quiet, cleared-quiet}
 use Rattle.laws_frames.specs.Frames.{SameOutside, SameWithin, SameAdvertised, SameOffPath}
 use Rattle.laws_whole.proofs.Pairs.{veiled, Waits, Pair, Paired}
 
@@ -79,13 +79,11 @@ keeps-hardware l y = let s : SameOffPath y (hardwareImage y l) = hardware-off y 
 -- ---- a change of bytes that soundness does not look at
 
 keeps-quiet : {y z : Image} → Quiet y z → Keeps y z
-keeps-quiet q = record { size = q .size; advertised = λ i d. q .byte i (advertised-kept i d); active = λ i a b. q .byte i (kept i a b) }
-  where
-    kept : (i : ℕ) → activeSet ≤ i → i < activeSet + setLength → Free i → ⊥
-    kept i a b (inl h) = omega arith
-    kept i a b (inr (inl h)) = omega arith
-    kept i a b (inr (inr (inl h))) = omega arith
-    kept i a b (inr (inr (inr h))) = omega arith
+keeps-quiet q = record {
+  size = q .size;
+  advertised = λ i d. q .byte i (advertised-kept i d);
+  active = λ i a b. q .byte i (lane-kept i (omega arith) (omega arith));
+}
 
 pub keeps-settled : (y : Image) → Keeps y (settledImage y)
 keeps-settled y = keeps-quiet (settled-quiet y)

@@ -12,9 +12,6 @@ use borrow.Author.Needs.{needs}
 use Rattle.access_limits.proofs.bad_access.Statement.{statement}
 use Rattle.access_limits.proofs.bad_access.Tie as tie
 
-sub-room : tie.Need-sub-room
-sub-room c = omega (arith, half-holds (c .before .args .address) (omega arith))
-
 returns : tie.Need-returns
 unfolding isBadAccess
 returns c =
@@ -24,4 +21,4 @@ returns c =
     rw e (or-either (eqb (a .count) 0 || ltb (a .limit) (a .count)) (ltb (halfEnd (a .address) - a .address) (a .count)) ∙ either-or (eqb (a .count) 0) (ltb (a .limit) (a .count)) _ ∙ rw p)
 
 pub bad-access-spec : {M : Type 1} → statement M
-bad-access-spec = tie.close (tie.spec (λ c κs. search needs) sub-room returns)
+bad-access-spec = tie.close (tie.spec (λ c κs. search needs) (λ c. omega (arith, half-holds (c .before .args .address) (omega arith))) returns)

@@ -19,9 +19,6 @@ Inv-loop image₀ i n k₀ image k =
 abbrev μ-loop : tie.MeasureT-loop
 μ-loop image₀ i n k₀ image k = n - k
 
-loop-holds : tie.Need-loop-holds Inv-loop μ-loop
-loop-holds c = (search needs, search needs, each-begin _ _ _)
-
 loop-again : tie.Need-loop-again Inv-loop μ-loop
 loop-again c =
     let i = c .before .before .before .loop .inv in
@@ -43,7 +40,7 @@ clear-spec =
     (tie.spec
     Inv-loop
     μ-loop
-    loop-holds
+    (λ c. (search needs, search needs, each-begin _ _ _))
     (λ c. search needs)
     (λ c κs. search needs)
     (λ c. search needs)

@@ -5,9 +5,6 @@ use borrow.Author.Needs.{needs}
 use Rattle.access_writes.proofs.meets_triggers.Statement.{statement}
 use Rattle.access_writes.proofs.meets_triggers.Tie as tie
 
-returns : tie.Need-returns
-unfolding meetsTriggers both
-returns c = search needs
-
 pub meets-triggers-spec : {M : Type 1} → statement M
-meets-triggers-spec = tie.close (tie.spec (λ c. search needs) returns)
+unfolding meetsTriggers both
+meets-triggers-spec = tie.close (tie.spec (λ c. search needs) (λ c. search needs))

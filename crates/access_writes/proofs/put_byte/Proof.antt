@@ -6,15 +6,8 @@ use borrow.Author.Needs.{needs}
 use Rattle.access_writes.proofs.put_byte.Statement.{statement}
 use Rattle.access_writes.proofs.put_byte.Tie as tie
 
-returns : tie.Need-returns
-unfolding bytePut pick
-returns c = rw (eq-eqb _ _ (c .before .before .before .before .if1 .taken)) (c .before .before .select-page .ensures)
-
-returns-2 : tie.Need-returns-2
-unfolding bytePut pick
-returns-2 c = rw (ne-eqb _ _ (c .before .before .before .before .if1 .left)) (c .before .before .store .ensures)
-
 pub put-byte-spec : {M : Type 1} → statement M
+unfolding bytePut pick
 put-byte-spec =
     tie.close
     (tie.spec
@@ -22,6 +15,6 @@ put-byte-spec =
     (λ c κs. search needs)
     (λ c κs. search needs)
     (λ c. search needs)
-    returns
+    (λ c. rw (eq-eqb _ _ (c .before .before .before .before .if1 .taken)) (c .before .before .select-page .ensures))
     (λ c. search needs)
-    returns-2)
+    (λ c. rw (ne-eqb _ _ (c .before .before .before .before .if1 .left)) (c .before .before .store .ensures)))

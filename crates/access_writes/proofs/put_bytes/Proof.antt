@@ -19,9 +19,6 @@ Inv-loop image₀ start offset bytes i₀ i-end image i =
 abbrev μ-loop : tie.MeasureT-loop
 μ-loop image₀ start offset bytes i₀ i-end image i = length bytes - i
 
-loop-holds : tie.Need-loop-holds Inv-loop μ-loop
-loop-holds c = (search needs, search needs, search needs, put-begin _ _ _ _)
-
 loop-again : tie.Need-loop-again Inv-loop μ-loop
 loop-again c =
     let a = c .before .before .before .before .before .before .before .before .before .args in
@@ -42,7 +39,7 @@ put-bytes-spec =
     (tie.spec
     Inv-loop
     μ-loop
-    loop-holds
+    (λ c. (search needs, search needs, search needs, put-begin _ _ _ _))
     (λ c. search needs)
     (λ c. search needs)
     (λ c κs. search needs)

@@ -14,11 +14,8 @@ returns c =
     rw (← (c .before .before .before .before .before .writable .ensures), c .before .before .before .before .if1 .taken)
     (part-set (now (a .image)) _ (a .start) 128 (a .offset) (a .v) (omega arith) (omega arith) (c .before .before .store-on-page .ensures))
 
-returns-2 : tie.Need-returns-2
-unfolding pick
-returns-2 c = rw (← (c .before .writable .ensures), c .if1 .left)
-
 pub store-spec : {M : Type 1} → statement M
+unfolding pick
 store-spec =
     tie.close
     (tie.spec
@@ -31,4 +28,4 @@ store-spec =
     (λ c κs. search needs)
     (λ c. search needs)
     returns
-    returns-2)
+    (λ c. rw (← (c .before .writable .ensures), c .if1 .left)))

@@ -12,9 +12,6 @@ use borrow.Author.Needs.{needs}
 use Rattle.access_writes.proofs.write.Statement.{statement}
 use Rattle.access_writes.proofs.write.Tie as tie
 
-add-meets-triggers : tie.Need-add-meets-triggers
-add-meets-triggers c = let a = c .before .before .before .before .args in omega (arith, half-fits (now (a .image)) (a .address))
-
 meets-triggers-requires : tie.Need-meets-triggers-requires
 meets-triggers-requires c κs =
     let s = c .before .before .before .before in
@@ -43,7 +40,7 @@ write-spec =
     tie.close
     (tie.spec
     (λ c κs. search needs)
-    add-meets-triggers
+    (λ c. let a = c .before .before .before .before .args in omega (arith, half-fits (now (a .image)) (a .address)))
     meets-triggers-requires
     (λ c κs. search needs)
     (λ c. search needs)

@@ -8,14 +8,6 @@ use borrow.Author.Needs.{needs}
 use Rattle.access_writes.proofs.write_at.Statement.{statement}
 use Rattle.access_writes.proofs.write_at.Tie as tie
 
-returns : tie.Need-returns
-unfolding storedState pick
-returns c = rw (c .before .before .before .before .if1 .taken) (c .before .before .trigger .ensures)
-
-returns-2 : tie.Need-returns-2
-unfolding storedState pick
-returns-2 c = rw (c .before .before .before .before .if2 .taken) (c .before .before .trigger2 .ensures)
-
 returns-3 : tie.Need-returns-3
 returns-3 c =
     let a = c .before .before .before .before .before .before .before .args in
@@ -23,16 +15,17 @@ returns-3 c =
     (record { image = c .before .before .put-byte .ensures; working = refl })
 
 pub write-at-spec : {M : Type 1} → statement M
+unfolding storedState pick
 write-at-spec =
     tie.close
     (tie.spec
     (λ c. search needs)
     (λ c κs. search needs)
     (λ c. search needs)
-    returns
+    (λ c. rw (c .before .before .before .before .if1 .taken) (c .before .before .trigger .ensures))
     (λ c κs. search needs)
     (λ c. search needs)
-    returns-2
+    (λ c. rw (c .before .before .before .before .if2 .taken) (c .before .before .trigger2 .ensures))
     (λ c κs. search needs)
     (λ c. search needs)
     returns-3)

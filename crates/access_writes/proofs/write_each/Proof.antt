@@ -21,15 +21,6 @@ Inv-loop image₀ address bytes next₀ i₀ i-end image next i =
 abbrev μ-loop : tie.MeasureT-loop
 μ-loop image₀ address bytes next₀ i₀ i-end image next i = length bytes - i
 
-loop-holds : tie.Need-loop-holds Inv-loop μ-loop
-loop-holds c = (search needs, search needs, search needs, write-begin _ _ _)
-
-add-write-byte : tie.Need-add-write-byte Inv-loop μ-loop
-add-write-byte c = omega (arith, half-ends (c .before .before .before .before .before .args .address))
-
-write-byte-requires : tie.Need-write-byte-requires Inv-loop μ-loop
-write-byte-requires c κs = (search needs, omega (arith, half-ends (c .before .before .before .before .before .before .args .address)))
-
 loop-again : tie.Need-loop-again Inv-loop μ-loop
 loop-again c =
     let i = c .before .before .before .before .before .before .loop .inv in
@@ -48,10 +39,10 @@ write-each-spec =
     (tie.spec
     Inv-loop
     μ-loop
-    loop-holds
-    add-write-byte
+    (λ c. (search needs, search needs, search needs, write-begin _ _ _))
+    (λ c. omega (arith, half-ends (c .before .before .before .before .before .args .address)))
     (λ c. search needs)
-    write-byte-requires
+    (λ c κs. (search needs, omega (arith, half-ends (c .before .before .before .before .before .before .args .address))))
     (λ c. search needs)
     (λ c. search needs)
     loop-again

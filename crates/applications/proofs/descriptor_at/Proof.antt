@@ -6,12 +6,6 @@ use Rattle.model.proofs.Descriptors.{in-lower, on-page}
 use Rattle.applications.proofs.descriptor_at.Statement.{statement}
 use Rattle.applications.proofs.descriptor_at.Tie as tie
 
-returns : tie.Need-returns
-returns c = sym (in-lower _ (c .if1 .taken))
-
-returns-2 : tie.Need-returns-2
-returns-2 c = sym (on-page _ (omega arith))
-
 pub descriptor-at-spec : {M : Type 1} → statement M
 descriptor-at-spec =
-    tie.close (tie.spec (λ c. search needs) (λ c. search needs) (λ c. search needs) (λ c. search needs) returns (λ c. search needs) (λ c. search needs) (λ c. search needs) returns-2)
+    tie.close (tie.spec (λ c. search needs) (λ c. search needs) (λ c. search needs) (λ c. search needs) (λ c. sym (in-lower _ (c .if1 .taken))) (λ c. search needs) (λ c. search needs) (λ c. search needs) (λ c. sym (on-page _ (omega arith))))

@@ -14,29 +14,17 @@ Inv-loop image app reaches₀ before₀ reaches before = (before ≤ app) × (re
 abbrev μ-loop : tie.MeasureT-loop
 μ-loop image app reaches₀ before₀ reaches before = app - before
 
-loop-holds : tie.Need-loop-holds Inv-loop μ-loop
-loop-holds c = (search needs, reaches-begin _)
-
-shared-slice-read-first : tie.Need-shared-slice-read-first Inv-loop μ-loop
-shared-slice-read-first c = let f = descriptor-fits (c .before .descriptor-at .ensures) (omega arith) in search (needs, f)
-
-loop-again : tie.Need-loop-again Inv-loop μ-loop
-loop-again c = (search needs, reaches-turn _ _ _ _ (c .before .descriptor-at .ensures) (c .before .before .before .loop .inv .1))
-
-returns : tie.Need-returns Inv-loop μ-loop
-returns c = let e : c .before .loop .before ≡ c .before .before .before .args .app = omega arith in rw e at (c .before .loop .inv .1)
-
 pub list-reaches-spec : {M : Type 1} → statement M
 list-reaches-spec =
     tie.close
     (tie.spec
     Inv-loop
     μ-loop
-    loop-holds
+    (λ c. (search needs, reaches-begin _))
     (λ c. search needs)
     (λ c κs. search needs)
-    shared-slice-read-first
+    (λ c. let f = descriptor-fits (c .before .descriptor-at .ensures) (omega arith) in search (needs, f))
     (λ c. search needs)
     (λ c. search needs)
-    loop-again
-    returns)
+    (λ c. (search needs, reaches-turn _ _ _ _ (c .before .descriptor-at .ensures) (c .before .before .before .loop .inv .1)))
+    (λ c. let e : c .before .loop .before ≡ c .before .before .before .args .app = omega arith in rw e at (c .before .loop .inv .1)))

@@ -5,21 +5,6 @@ use borrow.Author.Needs.{needs}
 use Rattle.applications.proofs.look_up.Statement.{statement}
 use Rattle.applications.proofs.look_up.Tie as tie
 
-returns : tie.Need-returns
-returns c = below-first _ _ (c .if1 .taken)
-
-returns-2 : tie.Need-returns-2
-returns-2 c = above-last _ _ (c .if2 .taken)
-
-add-take-field : tie.Need-add-take-field
-add-take-field c = let f = descriptor-fits (c .before .descriptor-at .ensures) (omega arith) in search (needs, f)
-
-shared-slice-read-take-field : tie.Need-shared-slice-read-take-field
-shared-slice-read-take-field c = let f = descriptor-fits (c .before .before .descriptor-at .ensures) (omega arith) in search (needs, f)
-
-add-firsts : tie.Need-add-firsts
-add-firsts c = let f = descriptor-fits (c .before .before .before .before .descriptor-at .ensures) (omega arith) in search (needs, f)
-
 shared-slice-read-firsts : tie.Need-shared-slice-read-firsts
 shared-slice-read-firsts c =
     let f = descriptor-fits (c .before .before .before .before .before .descriptor-at .ensures) (omega arith) in search (needs, f)
@@ -38,14 +23,14 @@ pub look-up-spec : {M : Type 1} → statement M
 look-up-spec =
     tie.close
     (tie.spec
-    returns
-    returns-2
+    (λ c. below-first _ _ (c .if1 .taken))
+    (λ c. above-last _ _ (c .if2 .taken))
     (λ c κs. search needs)
     (λ c κs. search needs)
-    add-take-field
-    shared-slice-read-take-field
+    (λ c. let f = descriptor-fits (c .before .descriptor-at .ensures) (omega arith) in search (needs, f))
+    (λ c. let f = descriptor-fits (c .before .before .descriptor-at .ensures) (omega arith) in search (needs, f))
     (λ c κs. search needs)
-    add-firsts
+    (λ c. let f = descriptor-fits (c .before .before .before .before .descriptor-at .ensures) (omega arith) in search (needs, f))
     shared-slice-read-firsts
     returns-3
     returns-4)

@@ -6,13 +6,6 @@ use borrow.Author.Needs.{needs}
 use Rattle.apply_reasons.proofs.exceeds.Statement.{statement}
 use Rattle.apply_reasons.proofs.exceeds.Tie as tie
 
-returns : tie.Need-returns
-unfolding both
-returns c = rw (sym (c .before .is-in .ensures) ∙ not-true _ (c .if1 .taken), both)
-
-returns-2 : tie.Need-returns-2
-unfolding both
-returns-2 c = rw (sym (c .before .before .is-in .ensures) ∙ not-false _ (c .before .if1 .left), both) (c .is-out-of-limits .ensures)
-
 pub exceeds-spec : {M : Type 1} → statement M
-exceeds-spec = tie.close (tie.spec (λ c κs. search needs) returns (λ c κs. search needs) returns-2)
+unfolding both
+exceeds-spec = tie.close (tie.spec (λ c κs. search needs) (λ c. rw (sym (c .before .is-in .ensures) ∙ not-true _ (c .if1 .taken), both)) (λ c κs. search needs) (λ c. rw (sym (c .before .before .is-in .ensures) ∙ not-false _ (c .before .if1 .left), both) (c .is-out-of-limits .ensures)))

@@ -7,9 +7,6 @@ use Rattle.model.specs.Verdicts.{otherAppSel}
 use Rattle.apply_reasons.proofs.has_other_app_sel.Statement.{statement}
 use Rattle.apply_reasons.proofs.has_other_app_sel.Tie as tie
 
-returns : tie.Need-returns
-unfolding otherAppSel someIn
-returns c = c .meets .ensures ∙ some-of laneCount _ _ (rest-is laneCount _ (c .before .lanes-with-app .ensures))
-
 pub has-other-app-sel-spec : {M : Type 1} → statement M
-has-other-app-sel-spec = tie.close (tie.spec (λ c κs. search needs) (λ c κs. search needs) returns)
+unfolding otherAppSel someIn
+has-other-app-sel-spec = tie.close (tie.spec (λ c κs. search needs) (λ c κs. search needs) (λ c. c .meets .ensures ∙ some-of laneCount _ _ (rest-is laneCount _ (c .before .lanes-with-app .ensures))))

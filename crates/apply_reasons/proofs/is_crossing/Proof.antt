@@ -9,9 +9,6 @@ returns c =
     rw (c .path-of .ensures)
     (cross-first _ _ _ _ (c .before .before .before .used-lanes .ensures) (c .before .before .next-in .ensures) (c .before .if1 .taken))
 
-returns-2 : tie.Need-returns-2
-returns-2 c = cross-none _ _ _ _ (c .before .before .used-lanes .ensures) (c .before .next-in .ensures) (c .if1 .left)
-
 pub is-crossing-spec : {M : Type 1} → statement M
 is-crossing-spec =
-    tie.close (tie.spec (λ c κs. search needs) (λ c κs. search needs) (λ c κs. search needs) returns returns-2)
+    tie.close (tie.spec (λ c κs. search needs) (λ c κs. search needs) (λ c κs. search needs) returns (λ c. cross-none _ _ _ _ (c .before .before .used-lanes .ensures) (c .before .next-in .ensures) (c .if1 .left)))

@@ -5,13 +5,6 @@ use borrow.Author.Needs.{needs}
 use Rattle.apply_reasons.proofs.is_refused.Statement.{statement}
 use Rattle.apply_reasons.proofs.is_refused.Tie as tie
 
-returns : tie.Need-returns
-unfolding either
-returns c = rw (lt-ltb _ _ (c .if1 .taken), either)
-
-returns-2 : tie.Need-returns-2
-unfolding either
-returns-2 c = rw (le-ltb _ _ (c .before .if1 .left), either, c .is-in .ensures)
-
 pub is-refused-spec : {M : Type 1} → statement M
-is-refused-spec = tie.close (tie.spec returns (λ c κs. search needs) returns-2)
+unfolding either
+is-refused-spec = tie.close (tie.spec (λ c. rw (lt-ltb _ _ (c .if1 .taken), either)) (λ c κs. search needs) (λ c. rw (le-ltb _ _ (c .before .if1 .left), either, c .is-in .ensures)))

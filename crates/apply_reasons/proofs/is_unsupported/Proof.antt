@@ -18,17 +18,8 @@ Inv-loop image base group unsupported₀ lane₀ unsupported lane = (lane ≤ 8)
 abbrev μ-loop : tie.MeasureT-loop
 μ-loop image base group unsupported₀ lane₀ unsupported lane = 8 - lane
 
-loop-holds : tie.Need-loop-holds Inv-loop μ-loop
-loop-holds c = (search needs, any-begin _)
-
-loop-again : tie.Need-loop-again Inv-loop μ-loop
-loop-again c = (search needs, any-turn _ _ _ _ (c .before .before .loop .inv .1) (c .exceeds .ensures))
-
-returns : tie.Need-returns Inv-loop μ-loop
-unfolding unsupported someIn viewOf
-returns c = let e : c .before .loop .lane ≡ 8 = omega arith in rw e at (c .before .loop .inv .1)
-
 pub is-unsupported-spec : {M : Type 1} → statement M
+unfolding unsupported someIn viewOf
 is-unsupported-spec =
     tie.close
-    (tie.spec Inv-loop μ-loop loop-holds (λ c κs. search needs) (λ c. search needs) (λ c. search needs) loop-again returns)
+    (tie.spec Inv-loop μ-loop (λ c. (search needs, any-begin _)) (λ c κs. search needs) (λ c. search needs) (λ c. search needs) (λ c. (search needs, any-turn _ _ _ _ (c .before .before .loop .inv .1) (c .exceeds .ensures))) (λ c. let e : c .before .loop .lane ≡ 8 = omega arith in rw e at (c .before .loop .inv .1)))

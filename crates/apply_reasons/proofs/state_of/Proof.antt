@@ -5,11 +5,5 @@ use borrow.Author.Needs.{needs}
 use Rattle.apply_reasons.proofs.state_of.Statement.{statement}
 use Rattle.apply_reasons.proofs.state_of.Tie as tie
 
-returns : tie.Need-returns
-returns c = rw (← c .before .before .next-in .ensures) (c .nibble .ensures ∙ sym (state-at _ _ (c .before .if1 .taken)))
-
-returns-2 : tie.Need-returns-2
-returns-2 c = rw (← c .before .next-in .ensures) (sym (state-past _ _ (c .if1 .left)))
-
 pub state-of-spec : {M : Type 1} → statement M
-state-of-spec = tie.close (tie.spec (λ c κs. search needs) (λ c κs. search needs) returns returns-2)
+state-of-spec = tie.close (tie.spec (λ c κs. search needs) (λ c κs. search needs) (λ c. rw (← c .before .before .next-in .ensures) (c .nibble .ensures ∙ sym (state-at _ _ (c .before .if1 .taken)))) (λ c. rw (← c .before .next-in .ensures) (sym (state-past _ _ (c .if1 .left)))))

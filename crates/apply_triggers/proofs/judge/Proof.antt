@@ -3,8 +3,5 @@ use borrow.Author.Needs.{needs}
 use Rattle.apply_triggers.proofs.judge.Statement.{statement}
 use Rattle.apply_triggers.proofs.judge.Tie as tie
 
-returns : tie.Need-returns
-returns c = rw (c .if1 .taken) (c .before .before .pre .2)
-
 pub judge-spec : {M : Type 1} → statement M
-judge-spec = tie.close (tie.spec returns (λ c κs. search needs) (λ c. search needs))
+judge-spec = tie.close (tie.spec (λ c. rw (c .if1 .taken) (c .before .before .pre .2)) (λ c κs. search needs) (λ c. search needs))

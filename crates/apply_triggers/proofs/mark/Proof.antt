@@ -46,9 +46,6 @@ loop-again c =
     (λ u. (search needs, rw (u .1, u .2) (mark-pass _ _ _ _ _ _ _ (unselected _ _ _ _ (sym bit ∙ u .0 .left)) (i .1)), rw (u .4, u .3) (i .2))))
     (c .if1 .came)
 
-returns : tie.Need-returns Inv-loop μ-loop
-returns c = let e : c .before .loop .lane ≡ laneCount = omega arith in rw e at (c .before .loop .inv .1)
-
 pub mark-spec : {M : Type 1} → statement M
 mark-spec =
     tie.close
@@ -72,4 +69,4 @@ mark-spec =
     (λ c. search needs)
     (λ c. search needs)
     loop-again
-    returns)
+    (λ c. let e : c .before .loop .lane ≡ laneCount = omega arith in rw e at (c .before .loop .inv .1)))

@@ -3,8 +3,5 @@ use borrow.Author.Needs.{needs}
 use Rattle.apply_triggers.proofs.marked_stage.Statement.{statement}
 use Rattle.apply_triggers.proofs.marked_stage.Tie as tie
 
-returns : tie.Need-returns
-returns c = rw (c .settings-at .ensures)
-
 pub marked-stage-spec : {M : Type 1} → statement M
-marked-stage-spec = tie.close (tie.spec (λ c κs. search needs) returns)
+marked-stage-spec = tie.close (tie.spec (λ c κs. search needs) (λ c. rw (c .settings-at .ensures)))

@@ -7,9 +7,6 @@ use borrow.Author.Needs.{needs}
 use Rattle.apply_triggers.proofs.trigger.Statement.{statement}
 use Rattle.apply_triggers.proofs.trigger.Tie as tie
 
-returns : tie.Need-returns
-returns c = left-alone _ _ _ _ _ (sym (c .before .is-ignored .ensures) ∙ c .if1 .taken)
-
 returns-2 : tie.Need-returns-2
 returns-2 c =
     let begun = c .before .before .before .before .before .before .before .before .before .before .before .before in
@@ -26,7 +23,7 @@ trigger-spec =
     (tie.spec
     (λ c κs. search needs)
     (λ c. search needs)
-    returns
+    (λ c. left-alone _ _ _ _ _ (sym (c .before .is-ignored .ensures) ∙ c .if1 .taken))
     (λ c κs. search needs)
     (λ c κs. search needs)
     (λ c κs. search needs)

@@ -8,10 +8,6 @@ use borrow.Author.Needs.{needs}
 use Rattle.apply_verdicts.proofs.apply_verdict.Statement.{statement}
 use Rattle.apply_verdicts.proofs.apply_verdict.Tie as tie
 
-returns : tie.Need-returns
-unfolding applyVerdict viewOf pick
-returns c = rw (sym (c .before .has-other-app-sel .ensures) ∙ c .if1 .taken, pick)
-
 returns-2 : tie.Need-returns-2
 unfolding applyVerdict applyBy viewOf pick
 returns-2 c =
@@ -34,11 +30,12 @@ returns-3 c =
     (c .descriptor-verdict .ensures)
 
 pub apply-verdict-spec : {M : Type 1} → statement M
+unfolding applyVerdict viewOf pick
 apply-verdict-spec =
     tie.close
     (tie.spec
     (λ c κs. search needs)
-    returns
+    (λ c. rw (sym (c .before .has-other-app-sel .ensures) ∙ c .if1 .taken, pick))
     (λ c κs. search needs)
     (λ c. search needs)
     (λ c. search needs)

@@ -8,10 +8,6 @@ use borrow.Author.Needs.{needs}
 use Rattle.apply_verdicts.proofs.descriptor_verdict.Statement.{statement}
 use Rattle.apply_verdicts.proofs.descriptor_verdict.Tie as tie
 
-returns : tie.Need-returns
-unfolding applyBy viewOf pick
-returns c = rw (sym (c .before .is-misplaced .ensures) ∙ c .if1 .taken, pick)
-
 returns-2 : tie.Need-returns-2
 unfolding applyBy viewOf pick
 returns-2 c =
@@ -91,11 +87,12 @@ returns-6 c =
     (c .passed .ensures)
 
 pub descriptor-verdict-spec : {M : Type 1} → statement M
+unfolding applyBy viewOf pick
 descriptor-verdict-spec =
     tie.close
     (tie.spec
     (λ c κs. search needs)
-    returns
+    (λ c. rw (sym (c .before .is-misplaced .ensures) ∙ c .if1 .taken, pick))
     (λ c κs. search needs)
     returns-2
     (λ c κs. search needs)

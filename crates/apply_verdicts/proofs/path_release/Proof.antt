@@ -7,10 +7,6 @@ use borrow.Author.Needs.{needs}
 use Rattle.apply_verdicts.proofs.path_release.Statement.{statement}
 use Rattle.apply_verdicts.proofs.path_release.Tie as tie
 
-returns : tie.Need-returns
-unfolding pathRelease viewOf pick
-returns c = rw (← c .before .before .before .before .pre .2, ← c .before .before .path-of .ensures, c .if1 .taken, pick)
-
 returns-2 : tie.Need-returns-2
 unfolding pathRelease viewOf pick
 returns-2 c =
@@ -40,5 +36,6 @@ returns-3 c =
     )
 
 pub path-release-spec : {M : Type 1} → statement M
+unfolding pathRelease viewOf pick
 path-release-spec =
-    tie.close (tie.spec (λ c κs. search needs) (λ c κs. search needs) returns returns-2 returns-3)
+    tie.close (tie.spec (λ c κs. search needs) (λ c κs. search needs) (λ c. rw (← c .before .before .before .before .pre .2, ← c .before .before .path-of .ensures, c .if1 .taken, pick)) returns-2 returns-3)

@@ -17,10 +17,7 @@ returns c =
     )
     (c .path-release .ensures)
 
-returns-2 : tie.Need-returns-2
-unfolding releaseVerdict viewOf pick
-returns-2 c = rw (← c .before .before .before .pre .2, sym (c .before .used-at .ensures) ∙ c .if1 .left, pick)
-
 pub release-verdict-spec : {M : Type 1} → statement M
+unfolding releaseVerdict viewOf pick
 release-verdict-spec =
-    tie.close (tie.spec (λ c κs. search needs) (λ c κs. search needs) returns returns-2)
+    tie.close (tie.spec (λ c κs. search needs) (λ c κs. search needs) returns (λ c. rw (← c .before .before .before .pre .2, sym (c .before .used-at .ensures) ∙ c .if1 .left, pick)))

@@ -9,12 +9,6 @@ use borrow.Author.Needs.{needs}
 use Rattle.apply_verdicts.proofs.verdict_of.Statement.{statement}
 use Rattle.apply_verdicts.proofs.verdict_of.Tie as tie
 
-returns : tie.Need-returns
-returns c = rw (c .before .next-in .ensures) (verdict-none _ _ _ _ (rw (← c .before .next-in .ensures) (c .if1 .taken)))
-
-apply-verdict-requires : tie.Need-apply-verdict-requires
-apply-verdict-requires c κs = (search needs, search needs, rw (c .before .id-at .ensures) (id-lt _), rw (c .app-at .ensures) (app-lt _))
-
 returns-2 : tie.Need-returns-2
 unfolding verdictOf viewOf pick
 returns-2 c =
@@ -42,11 +36,11 @@ verdict-of-spec =
     tie.close
     (tie.spec
     (λ c κs. search needs)
-    returns
+    (λ c. rw (c .before .next-in .ensures) (verdict-none _ _ _ _ (rw (← c .before .next-in .ensures) (c .if1 .taken))))
     (λ c κs. search needs)
     (λ c κs. search needs)
     (λ c κs. search needs)
-    apply-verdict-requires
+    (λ c κs. (search needs, search needs, rw (c .before .id-at .ensures) (id-lt _), rw (c .app-at .ensures) (app-lt _)))
     returns-2
     (λ c κs. search needs)
     returns-3)

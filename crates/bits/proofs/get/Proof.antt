@@ -4,9 +4,6 @@ use borrow.Author.Needs.{needs}
 use Rattle.bits.proofs.get.Statement.{statement}
 use Rattle.bits.proofs.get.Tie as tie
 
-returns : tie.Need-returns
-unfolding get
-returns c = search needs
-
 pub get-spec : {M : Type 1} → statement M
-get-spec = tie.close (tie.spec (λ c. search needs) (λ c κs. search needs) returns)
+unfolding get
+get-spec = tie.close (tie.spec (λ c. search needs) (λ c κs. search needs) (λ c. search needs))

@@ -5,8 +5,5 @@ use borrow.Author.Needs.{needs}
 use Rattle.bits.proofs.pow2.Statement.{statement}
 use Rattle.bits.proofs.pow2.Tie as tie
 
-returns : tie.Need-returns
-returns c = rw one-mul (mod-eq-of-lt (pow-lt {j = 32} (c .pre)))
-
 pub pow2-spec : {M : Type 1} → statement M
-pow2-spec = tie.close (tie.spec (λ c. search needs) returns)
+pow2-spec = tie.close (tie.spec (λ c. search needs) (λ c. rw one-mul (mod-eq-of-lt (pow-lt {j = 32} (c .pre)))))

@@ -24,35 +24,8 @@ sum c =
     whole (s .args .x) (s .args .shift) (s .args .width) (s .args .v) _ _ _ (s .fits .x .fits) (s .pre)
     (c .before .before .pow2 .ensures) (c .before .pow22 .ensures) (c .pow23 .ensures)
 
-rem-fit : tie.Need-rem-fit
-rem-fit c = rw (c .pow23 .ensures) (pow-pos _)
-
-div-result : tie.Need-div-result
-div-result c = rw (c .before .before .pow2 .ensures) (pow-pos _)
-
-mul-result : tie.Need-mul-result
-mul-result c = omega (arith, sum c)
-
-mul-result-2 : tie.Need-mul-result-2
-mul-result-2 c = omega (arith, sum c)
-
-rem-result : tie.Need-rem-result
-rem-result c = rw (c .before .pow22 .ensures) (pow-pos _)
-
-add-result : tie.Need-add-result
-add-result c = omega (arith, sum c)
-
-add-result-2 : tie.Need-add-result-2
-add-result-2 c = omega (arith, sum c)
-
-cast-result : tie.Need-cast-result
-cast-result c = omega (arith, sum c)
-
-returns : tie.Need-returns
-unfolding withField
-returns c = rw (c .before .before .pow2 .ensures, c .before .pow22 .ensures, c .pow23 .ensures)
-
 pub put-field-spec : {M : Type 1} → statement M
+unfolding withField
 put-field-spec =
     tie.close
     (tie.spec
@@ -60,12 +33,12 @@ put-field-spec =
     (λ c κs. search needs)
     (λ c κs. search needs)
     (λ c κs. search needs)
-    rem-fit
-    div-result
-    mul-result
-    mul-result-2
-    rem-result
-    add-result
-    add-result-2
-    cast-result
-    returns)
+    (λ c. rw (c .pow23 .ensures) (pow-pos _))
+    (λ c. rw (c .before .before .pow2 .ensures) (pow-pos _))
+    (λ c. omega (arith, sum c))
+    (λ c. omega (arith, sum c))
+    (λ c. rw (c .before .pow22 .ensures) (pow-pos _))
+    (λ c. omega (arith, sum c))
+    (λ c. omega (arith, sum c))
+    (λ c. omega (arith, sum c))
+    (λ c. rw (c .before .before .pow2 .ensures, c .before .pow22 .ensures, c .pow23 .ensures)))

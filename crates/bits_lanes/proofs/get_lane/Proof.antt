@@ -4,14 +4,5 @@ use Rattle.bits_lanes.proofs.Fits.{field-fits}
 use Rattle.bits_lanes.proofs.get_lane.Statement.{statement}
 use Rattle.bits_lanes.proofs.get_lane.Tie as tie
 
-lane-field-requires : tie.Need-lane-field-requires
-lane-field-requires c κs = let s = c .before in (omega arith, s .pre .1, s .pre .2)
-
-get-requires : tie.Need-get-requires
-get-requires c κs = let s = c .before .before in field-fits (s .args .base) (s .args .width) (s .args .lane) _ _ (c .lane-field .ensures) (s .pre .0) (s .pre .1) (s .pre .2)
-
-returns : tie.Need-returns
-returns c = cc
-
 pub get-lane-spec : {M : Type 1} → statement M
-get-lane-spec = tie.close (tie.spec lane-field-requires get-requires returns)
+get-lane-spec = tie.close (tie.spec (λ c κs. let s = c .before in (omega arith, s .pre .1, s .pre .2)) (λ c κs. let s = c .before .before in field-fits (s .args .base) (s .args .width) (s .args .lane) _ _ (c .lane-field .ensures) (s .pre .0) (s .pre .1) (s .pre .2)) (λ c. cc))

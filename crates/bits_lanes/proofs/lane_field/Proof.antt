@@ -12,18 +12,6 @@ small : (c : tie.Start) → (c .args .lane * c .args .width / 8 < c .args .width
 unfolding laneField
 small c = let r = lane-in 0 (c .args .width) (c .args .lane) (c .pre .1) (c .pre .2) in (omega arith, omega arith)
 
-mul-bit : tie.Need-mul-bit
-mul-bit c = record { fits = omega (arith, small c) }
-
-cast-t5 : tie.Need-cast-t5
-cast-t5 c = omega (arith, small c)
-
-add-t7 : tie.Need-add-t7
-add-t7 c = omega (arith, small c)
-
-returns : tie.Need-returns
-unfolding laneField
-returns c = search needs
-
 pub lane-field-spec : {M : Type 1} → statement M
-lane-field-spec = tie.close (tie.spec mul-bit cast-t5 add-t7 returns)
+unfolding laneField
+lane-field-spec = tie.close (tie.spec (λ c. record { fits = omega (arith, small c) }) (λ c. omega (arith, small c)) (λ c. omega (arith, small c)) (λ c. search needs))

@@ -20,9 +20,6 @@ Inv-loop image₀ base width set v lane₀ image lane =
 abbrev μ-loop : tie.MeasureT-loop
 μ-loop image₀ base width set v lane₀ image lane = 8 - lane
 
-loop-holds : tie.Need-loop-holds Inv-loop μ-loop
-loop-holds c = (search needs, search needs, each-begin _ _ _)
-
 loop-again : tie.Need-loop-again Inv-loop μ-loop
 loop-again c =
     let i = c .before .before .before .loop .inv in
@@ -32,20 +29,17 @@ loop-again c =
     (λ w. (search needs, ap length (w .1) ∙ i .1, w .1 ∙ each-pass _ _ _ _ _ (i .2) (sym bit ∙ w .0 .left)))
     (c .if1 .came)
 
-returns : tie.Need-returns Inv-loop μ-loop
-returns c = let e : c .before .loop .lane ≡ 8 = omega arith in rw e at (c .before .loop .inv .2)
-
 pub put-each-spec : {M : Type 1} → statement M
 put-each-spec =
     tie.close
     (tie.spec
     Inv-loop
     μ-loop
-    loop-holds
+    (λ c. (search needs, search needs, each-begin _ _ _))
     (λ c κs. search needs)
     (λ c κs. search needs)
     (λ c. search needs)
     (λ c. search needs)
     loop-again
     (λ c. search needs)
-    returns)
+    (λ c. let e : c .before .loop .lane ≡ 8 = omega arith in rw e at (c .before .loop .inv .2)))

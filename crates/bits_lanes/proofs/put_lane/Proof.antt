@@ -5,14 +5,5 @@ use borrow.Author.Needs.{needs}
 use Rattle.bits_lanes.proofs.put_lane.Statement.{statement}
 use Rattle.bits_lanes.proofs.put_lane.Tie as tie
 
-lane-field-requires : tie.Need-lane-field-requires
-lane-field-requires c κs = let s = c .before .before in (omega arith, s .pre .1, s .pre .2)
-
-put-requires : tie.Need-put-requires
-put-requires c κs = let s = c .before .before .before in field-fits (s .args .base) (s .args .width) (s .args .lane) _ _ (c .lane-field .ensures) (s .pre .0) (s .pre .1) (s .pre .2)
-
-returns : tie.Need-returns
-returns c = cc
-
 pub put-lane-spec : {M : Type 1} → statement M
-put-lane-spec = tie.close (tie.spec lane-field-requires put-requires (λ c. search needs) returns)
+put-lane-spec = tie.close (tie.spec (λ c κs. let s = c .before .before in (omega arith, s .pre .1, s .pre .2)) (λ c κs. let s = c .before .before .before in field-fits (s .args .base) (s .args .width) (s .args .lane) _ _ (c .lane-field .ensures) (s .pre .0) (s .pre .1) (s .pre .2)) (λ c. search needs) (λ c. cc))

@@ -4,9 +4,6 @@ use borrow.Author.Needs.{needs}
 use Rattle.bits_sets.proofs.is_in.Statement.{statement}
 use Rattle.bits_sets.proofs.is_in.Tie as tie
 
-returns : tie.Need-returns
-unfolding has
-returns c = rw (c .take-field .ensures)
-
 pub is-in-spec : {M : Type 1} → statement M
-is-in-spec = tie.close (tie.spec (λ c κs. search needs) returns)
+unfolding has
+is-in-spec = tie.close (tie.spec (λ c κs. search needs) (λ c. rw (c .take-field .ensures)))

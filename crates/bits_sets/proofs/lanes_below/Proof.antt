@@ -11,18 +11,6 @@ use Rattle.bits.specs.Sets.{laneCount}
 use Rattle.bits_sets.proofs.lanes_below.Statement.{statement}
 use Rattle.bits_sets.proofs.lanes_below.Tie as tie
 
-returns : tie.Need-returns
-returns c = below-is laneCount laneCount (omega arith) ∙ mask-ext laneCount _ _ (λ l h. rw (lt-ltb l laneCount h, lt-ltb l (c .before .args .end) (omega arith)))
-
-sub-result : tie.Need-sub-result
-sub-result c = rw (c .pow2 .ensures) (pow-pos (c .before .before .args .end))
-
-cast-result : tie.Need-cast-result
-cast-result c = omega (arith, c .pow2 .ensures, pow-mono {i = c .before .before .args .end} {j = 8} (omega arith))
-
-returns-2 : tie.Need-returns-2
-returns-2 c = ap (λ k. k - 1) (c .pow2 .ensures) ∙ below-is laneCount _ (omega arith)
-
 pub lanes-below-spec : {M : Type 1} → statement M
 lanes-below-spec =
-    tie.close (tie.spec (λ c. search needs) returns (λ c. search needs) (λ c κs. search needs) sub-result cast-result returns-2)
+    tie.close (tie.spec (λ c. search needs) (λ c. below-is laneCount laneCount (omega arith) ∙ mask-ext laneCount _ _ (λ l h. rw (lt-ltb l laneCount h, lt-ltb l (c .before .args .end) (omega arith)))) (λ c. search needs) (λ c κs. search needs) (λ c. rw (c .pow2 .ensures) (pow-pos (c .before .before .args .end))) (λ c. omega (arith, c .pow2 .ensures, pow-mono {i = c .before .before .args .end} {j = 8} (omega arith))) (λ c. ap (λ k. k - 1) (c .pow2 .ensures) ∙ below-is laneCount _ (omega arith)))

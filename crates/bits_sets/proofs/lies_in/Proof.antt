@@ -5,9 +5,6 @@ use Rattle.bits.specs.Sets.{laneCount, everyIn}
 use Rattle.bits_sets.proofs.lies_in.Statement.{statement}
 use Rattle.bits_sets.proofs.lies_in.Tie as tie
 
-returns : tie.Need-returns
-unfolding everyIn
-returns c = lies-in laneCount _ _ (omega arith) (omega arith)
-
 pub lies-in-spec : {M : Type 1} → statement M
-lies-in-spec = tie.close (tie.spec returns)
+unfolding everyIn
+lies-in-spec = tie.close (tie.spec (λ c. lies-in laneCount _ _ (omega arith) (omega arith)))

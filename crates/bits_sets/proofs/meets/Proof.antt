@@ -5,9 +5,6 @@ use Rattle.bits.specs.Sets.{laneCount, someIn}
 use Rattle.bits_sets.proofs.meets.Statement.{statement}
 use Rattle.bits_sets.proofs.meets.Tie as tie
 
-returns : tie.Need-returns
-unfolding someIn
-returns c = shares laneCount _ _ (omega arith)
-
 pub meets-spec : {M : Type 1} → statement M
-meets-spec = tie.close (tie.spec returns)
+unfolding someIn
+meets-spec = tie.close (tie.spec (λ c. shares laneCount _ _ (omega arith)))

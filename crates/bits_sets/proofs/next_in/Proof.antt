@@ -15,15 +15,6 @@ Inv-loop set from lane₀ lane = (lane ≤ 8) × (nextIn 8 set from ≡ nextIn 8
 abbrev μ-loop : tie.MeasureT-loop
 μ-loop set from lane₀ lane = 8 - lane
 
-returns : tie.Need-returns Inv-loop μ-loop
-returns c = sym (c .before .before .before .loop .inv .1 ∙ next-here 8 _ _ (omega arith) (sym (c .before .is-in .ensures) ∙ c .if1 .taken))
-
-loop-again : tie.Need-loop-again Inv-loop μ-loop
-loop-again c = (search needs, rw add-one (c .before .before .before .loop .inv .1 ∙ next-step 8 _ _ (omega arith) (sym (c .before .is-in .ensures) ∙ c .if1 .left)))
-
-returns-2 : tie.Need-returns-2 Inv-loop μ-loop
-returns-2 c = let e : c .before .loop .lane ≡ 8 = omega arith in sym (c .before .loop .inv .1 ∙ rw e (next-end 8 _))
-
 pub next-in-spec : {M : Type 1} → statement M
 next-in-spec =
     tie.close
@@ -32,8 +23,8 @@ next-in-spec =
     μ-loop
     (λ c. search needs)
     (λ c κs. search needs)
-    returns
+    (λ c. sym (c .before .before .before .loop .inv .1 ∙ next-here 8 _ _ (omega arith) (sym (c .before .is-in .ensures) ∙ c .if1 .taken)))
     (λ c. search needs)
     (λ c. search needs)
-    loop-again
-    returns-2)
+    (λ c. (search needs, rw add-one (c .before .before .before .loop .inv .1 ∙ next-step 8 _ _ (omega arith) (sym (c .before .is-in .ensures) ∙ c .if1 .left))))
+    (λ c. let e : c .before .loop .lane ≡ 8 = omega arith in sym (c .before .loop .inv .1 ∙ rw e (next-end 8 _))))

@@ -9,14 +9,8 @@ use borrow.Author.Needs.{needs}
 use Rattle.bits_words.proofs.put_word2.Statement.{statement}
 use Rattle.bits_words.proofs.put_word2.Tie as tie
 
-slice-write-bytes-2 : tie.Need-slice-write-bytes-2
-slice-write-bytes-2 c = simp length-set (search needs)
-
-returns : tie.Need-returns
-unfolding putWord
-returns c = let e : c .args .v / 256 % 256 ≡ c .args .v / 256 = omega arith in rw (add-zero, e)
-
 pub put-word2-spec : {M : Type 1} → statement M
+unfolding putWord
 put-word2-spec =
     tie.close
     (tie.spec
@@ -24,6 +18,6 @@ put-word2-spec =
     (λ c. search needs)
     (λ c. search needs)
     (λ c. search needs)
-    slice-write-bytes-2
+    (λ c. simp length-set (search needs))
     (λ c. search needs)
-    returns)
+    (λ c. let e : c .args .v / 256 % 256 ≡ c .args .v / 256 = omega arith in rw (add-zero, e)))

@@ -5,9 +5,6 @@ use borrow.Author.Needs.{needs}
 use Rattle.bits_words.proofs.word4.Statement.{statement}
 use Rattle.bits_words.proofs.word4.Tie as tie
 
-returns : tie.Need-returns
-returns c = rw (c .before .word2 .ensures, c .word22 .ensures) (sym (word-split 2 2 _ _))
-
 pub word4-spec : {M : Type 1} → statement M
 word4-spec =
     tie.close
@@ -19,4 +16,4 @@ word4-spec =
     (λ c κs. search needs)
     (λ c. search needs)
     (λ c. search needs)
-    returns)
+    (λ c. rw (c .before .word2 .ensures, c .word22 .ensures) (sym (word-split 2 2 _ _))))

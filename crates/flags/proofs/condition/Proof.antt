@@ -5,9 +5,6 @@ use borrow.Author.Needs.{needs}
 use Rattle.flags.proofs.condition.Statement.{statement}
 use Rattle.flags.proofs.condition.Tie as tie
 
-returns : tie.Need-returns
-unfolding conditionImage withFlags
-returns c = rw (← (c .before .before .before .on .ensures)) (c .before .before .set-bits .ensures)
-
 pub condition-spec : {M : Type 1} → statement M
-condition-spec = tie.close (tie.spec (λ c κs. search needs) (λ c κs. search needs) (λ c. search needs) returns)
+unfolding conditionImage withFlags
+condition-spec = tie.close (tie.spec (λ c κs. search needs) (λ c κs. search needs) (λ c. search needs) (λ c. rw (← (c .before .before .before .on .ensures)) (c .before .before .set-bits .ensures)))

@@ -6,9 +6,6 @@ use borrow.Author.Needs.{needs}
 use Rattle.flags.proofs.is_condition_flag.Statement.{statement}
 use Rattle.flags.proofs.is_condition_flag.Tie as tie
 
-returns : tie.Need-returns
-unfolding isConditionFlag inRanges
-returns c = all-tests (then-test (first-test (c .before .within .ensures)) (c .within2 .ensures))
-
 pub is-condition-flag-spec : {M : Type 1} → statement M
-is-condition-flag-spec = tie.close (tie.spec (λ c κs. search needs) (λ c κs. search needs) returns)
+unfolding isConditionFlag inRanges
+is-condition-flag-spec = tie.close (tie.spec (λ c κs. search needs) (λ c κs. search needs) (λ c. all-tests (then-test (first-test (c .before .within .ensures)) (c .within2 .ensures))))

@@ -15,9 +15,6 @@ Inv-loop image due₀ k₀ due k = (k ≤ 20) × Gathered image due k
 abbrev μ-loop : tie.MeasureT-loop
 μ-loop image due₀ k₀ due k = 20 - k
 
-loop-holds : tie.Need-loop-holds Inv-loop μ-loop
-loop-holds c = (search needs, gathered-begin _)
-
 loop-again : tie.Need-loop-again Inv-loop μ-loop
 loop-again c =
     let k = c .before .before .before .loop .k in (
@@ -28,17 +25,14 @@ loop-again c =
           (c .before .before .before .loop .inv .1),
     )
 
-returns : tie.Need-returns Inv-loop μ-loop
-unfolding interrupts
-returns c = let e : c .before .loop .k ≡ 20 = omega arith in rw e at (c .before .loop .inv .1)
-
 pub is-due-spec : {M : Type 1} → statement M
+unfolding interrupts
 is-due-spec =
     tie.close
     (tie.spec
     Inv-loop
     μ-loop
-    loop-holds
+    (λ c. (search needs, gathered-begin _))
     (λ c. search needs)
     (λ c. search needs)
     (λ c. search needs)
@@ -46,4 +40,4 @@ is-due-spec =
     (λ c. search needs)
     (λ c. search needs)
     loop-again
-    returns)
+    (λ c. let e : c .before .loop .k ≡ 20 = omega arith in rw e at (c .before .loop .inv .1)))

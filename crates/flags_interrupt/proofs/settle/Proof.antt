@@ -5,9 +5,6 @@ use borrow.Author.Needs.{needs}
 use Rattle.flags_interrupt.proofs.settle.Statement.{statement}
 use Rattle.flags_interrupt.proofs.settle.Tie as tie
 
-returns : tie.Need-returns
-unfolding settledImage
-returns c = rw (← (c .before .before .before .before .is-due .ensures), ← quiet-bit) (c .before .before .put .ensures)
-
 pub settle-spec : {M : Type 1} → statement M
-settle-spec = tie.close (tie.spec (λ c κs. search needs) (λ c. search needs) (λ c κs. search needs) (λ c. search needs) returns)
+unfolding settledImage
+settle-spec = tie.close (tie.spec (λ c κs. search needs) (λ c. search needs) (λ c κs. search needs) (λ c. search needs) (λ c. rw (← (c .before .before .before .before .is-due .ensures), ← quiet-bit) (c .before .before .put .ensures)))

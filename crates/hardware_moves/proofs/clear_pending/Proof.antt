@@ -12,9 +12,6 @@ returns c =
     c .before .before .clear-bits .ensures
     ∙ sym (only-true _ _ (sym (c .before .before .before .before .before .is-initialized .ensures) ∙ c .before .before .before .before .if1 .taken))
 
-returns-2 : tie.Need-returns-2
-returns-2 c = sym (only-false _ _ (sym (c .before .is-initialized .ensures) ∙ c .if1 .left))
-
 pub clear-pending-spec : {M : Type 1} → statement M
 clear-pending-spec =
-    tie.close (tie.spec (λ c κs. search needs) (λ c κs. search needs) (λ c. search needs) returns returns-2)
+    tie.close (tie.spec (λ c κs. search needs) (λ c κs. search needs) (λ c. search needs) returns (λ c. sym (only-false _ _ (sym (c .before .is-initialized .ensures) ∙ c .if1 .left))))

@@ -5,9 +5,6 @@ use borrow.Author.Needs.{needs}
 use Rattle.hardware_moves.proofs.is_initialized.Statement.{statement}
 use Rattle.hardware_moves.proofs.is_initialized.Tie as tie
 
-returns : tie.Need-returns
-unfolding isInitialized isState
-returns c = rw (c .before .code .ensures, c .code2 .ensures) (and-pick _ _)
-
 pub is-initialized-spec : {M : Type 1} → statement M
-is-initialized-spec = tie.close (tie.spec (λ c κs. search needs) (λ c κs. search needs) returns)
+unfolding isInitialized isState
+is-initialized-spec = tie.close (tie.spec (λ c κs. search needs) (λ c κs. search needs) (λ c. rw (c .before .code .ensures, c .code2 .ensures) (and-pick _ _)))

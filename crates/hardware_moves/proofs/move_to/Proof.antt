@@ -14,10 +14,7 @@ returns c =
     ∙ sym
     (only-true _ _ (rw (← c .before .before .before .before .before .before .code .ensures, ← c .before .before .before .before .before .code2 .ensures, ne-eqb _ _ (c .before .before .before .before .if1 .taken))))
 
-returns-2 : tie.Need-returns-2
-unfolding movedImage isState
-returns-2 c = sym (only-false _ _ (rw (← c .before .before .code .ensures, ← c .before .code2 .ensures, eq-eqb _ _ (c .if1 .left))))
-
 pub move-to-spec : {M : Type 1} → statement M
+unfolding movedImage isState
 move-to-spec =
-    tie.close (tie.spec (λ c κs. search needs) (λ c κs. search needs) (λ c κs. search needs) (λ c. search needs) returns returns-2)
+    tie.close (tie.spec (λ c κs. search needs) (λ c κs. search needs) (λ c κs. search needs) (λ c. search needs) returns (λ c. sym (only-false _ _ (rw (← c .before .before .code .ensures, ← c .before .code2 .ensures, eq-eqb _ _ (c .if1 .left))))))

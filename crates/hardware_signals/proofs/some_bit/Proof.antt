@@ -9,9 +9,6 @@ use borrow.Author.Needs.{needs}
 use Rattle.hardware_signals.proofs.some_bit.Statement.{statement}
 use Rattle.hardware_signals.proofs.some_bit.Tie as tie
 
-returns : tie.Need-returns
-unfolding someBit someIn
-returns c = c .meets .ensures ∙ any-ext 8 _ _ (λ m h. ap (both _) (sym (bit-has _ _ m h)))
-
 pub some-bit-spec : {M : Type 1} → statement M
-some-bit-spec = tie.close (tie.spec (λ c. search needs) (λ c κs. search needs) returns)
+unfolding someBit someIn
+some-bit-spec = tie.close (tie.spec (λ c. search needs) (λ c κs. search needs) (λ c. c .meets .ensures ∙ any-ext 8 _ _ (λ m h. ap (both _) (sym (bit-has _ _ m h)))))

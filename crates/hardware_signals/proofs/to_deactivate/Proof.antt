@@ -7,9 +7,6 @@ use borrow.Author.Needs.{needs}
 use Rattle.hardware_signals.proofs.to_deactivate.Statement.{statement}
 use Rattle.hardware_signals.proofs.to_deactivate.Tie as tie
 
-returns : tie.Need-returns
-unfolding toDeactivate
-returns c = rw (c .before .before .some-bit .ensures, c .before .some-bit2 .ensures, c .to-reinit .ensures) (or-either _ _ ∙ ap (either _) (or-either _ _))
-
 pub to-deactivate-spec : {M : Type 1} → statement M
-to-deactivate-spec = tie.close (tie.spec (λ c κs. search needs) (λ c κs. search needs) (λ c κs. search needs) returns)
+unfolding toDeactivate
+to-deactivate-spec = tie.close (tie.spec (λ c κs. search needs) (λ c κs. search needs) (λ c κs. search needs) (λ c. rw (c .before .before .some-bit .ensures, c .before .some-bit2 .ensures, c .to-reinit .ensures) (or-either _ _ ∙ ap (either _) (or-either _ _))))

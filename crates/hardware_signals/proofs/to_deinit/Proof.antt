@@ -4,9 +4,6 @@ use borrow.Author.Needs.{needs}
 use Rattle.hardware_signals.proofs.to_deinit.Statement.{statement}
 use Rattle.hardware_signals.proofs.to_deinit.Tie as tie
 
-returns : tie.Need-returns
-unfolding toDeinit
-returns c = c .some-bit .ensures
-
 pub to-deinit-spec : {M : Type 1} → statement M
-to-deinit-spec = tie.close (tie.spec (λ c κs. search needs) returns)
+unfolding toDeinit
+to-deinit-spec = tie.close (tie.spec (λ c κs. search needs) (λ c. c .some-bit .ensures))

@@ -5,9 +5,6 @@ use borrow.Author.Needs.{needs}
 use Rattle.hardware_signals.proofs.to_reinit.Statement.{statement}
 use Rattle.hardware_signals.proofs.to_reinit.Tie as tie
 
-returns : tie.Need-returns
-unfolding toReinit
-returns c = rw (c .before .to-deinit .ensures, c .some-bit .ensures) (or-either _ _)
-
 pub to-reinit-spec : {M : Type 1} → statement M
-to-reinit-spec = tie.close (tie.spec (λ c κs. search needs) (λ c κs. search needs) returns)
+unfolding toReinit
+to-reinit-spec = tie.close (tie.spec (λ c κs. search needs) (λ c κs. search needs) (λ c. rw (c .before .to-deinit .ensures, c .some-bit .ensures) (or-either _ _)))

@@ -5,9 +5,6 @@ use borrow.Author.Needs.{needs}
 use Rattle.map.proofs.clearing.Statement.{statement}
 use Rattle.map.proofs.clearing.Tie as tie
 
-returns : tie.Need-returns
-unfolding clearing inRanges
-returns c = all-tests (then-test (first-test (c .before .within .ensures)) (c .on-page .ensures))
-
 pub clearing-spec : {M : Type 1} → statement M
-clearing-spec = tie.close (tie.spec (λ c κs. search needs) (λ c κs. search needs) returns)
+unfolding clearing inRanges
+clearing-spec = tie.close (tie.spec (λ c κs. search needs) (λ c κs. search needs) (λ c. all-tests (then-test (first-test (c .before .within .ensures)) (c .on-page .ensures))))

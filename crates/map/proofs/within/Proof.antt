@@ -3,8 +3,5 @@ use Rattle.bits.proofs.Tests.{and-both}
 use Rattle.map.proofs.within.Statement.{statement}
 use Rattle.map.proofs.within.Tie as tie
 
-returns : tie.Need-returns
-returns c = and-both _ _
-
 pub within-spec : {M : Type 1} → statement M
-within-spec = tie.close (tie.spec returns)
+within-spec = tie.close (tie.spec (λ c. and-both _ _))

@@ -5,11 +5,8 @@ use borrow.Author.Needs.{needs}
 use Rattle.map.proofs.writable.Statement.{statement}
 use Rattle.map.proofs.writable.Tie as tie
 
-returns : tie.Need-returns
-unfolding writable inRanges
-returns c = all-tests (then-test (then-test (then-test (then-test (then-test (then-test (first-test (c .before .before .before .before .before .before .within .ensures)) (c .before .before .before .before .before .within2 .ensures)) (c .before .before .before .before .on-page .ensures)) (c .before .before .before .on-page2 .ensures)) (c .before .before .on-page3 .ensures)) (c .before .on-page4 .ensures)) (c .on-page5 .ensures))
-
 pub writable-spec : {M : Type 1} → statement M
+unfolding writable inRanges
 writable-spec =
     tie.close
     (tie.spec
@@ -20,4 +17,4 @@ writable-spec =
     (λ c κs. search needs)
     (λ c κs. search needs)
     (λ c κs. search needs)
-    returns)
+    (λ c. all-tests (then-test (then-test (then-test (then-test (then-test (then-test (first-test (c .before .before .before .before .before .before .within .ensures)) (c .before .before .before .before .before .within2 .ensures)) (c .before .before .before .before .on-page .ensures)) (c .before .before .before .on-page2 .ensures)) (c .before .before .on-page3 .ensures)) (c .before .on-page4 .ensures)) (c .on-page5 .ensures))))

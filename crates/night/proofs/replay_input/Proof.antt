@@ -6,12 +6,6 @@ use borrow.Author.Needs.{needs}
 use Rattle.night.proofs.replay_input.Statement.{statement}
 use Rattle.night.proofs.replay_input.Tie as tie
 
-slice-reshare-prefix-write-all : tie.Need-slice-reshare-prefix-write-all
-slice-reshare-prefix-write-all c = gives-fits _ _ _ _ _ (c .before .before .before .before .before .replay .kept .1 .0) (rw (c .before .replayed .given .1) at (c .before .before .before .before .before .replay .ensures))
-
-slice-aggregate-write-all : tie.Need-slice-aggregate-write-all
-slice-aggregate-write-all c = sym (length-take-le _ _ (gives-fits _ _ _ _ _ (c .before .before .before .before .before .before .replay .kept .1 .0) (rw (c .before .before .replayed .given .1) at (c .before .before .before .before .before .before .replay .ensures))))
-
 pub replay-input-spec : {M : Type 1} → statement M
 replay-input-spec =
     tie.close
@@ -25,8 +19,8 @@ replay-input-spec =
     (λ c. search needs)
     (λ c. search needs)
     (λ c. search needs)
-    slice-reshare-prefix-write-all
-    slice-aggregate-write-all
+    (λ c. gives-fits _ _ _ _ _ (c .before .before .before .before .before .replay .kept .1 .0) (rw (c .before .replayed .given .1) at (c .before .before .before .before .before .replay .ensures)))
+    (λ c. sym (length-take-le _ _ (gives-fits _ _ _ _ _ (c .before .before .before .before .before .before .replay .kept .1 .0) (rw (c .before .before .replayed .given .1) at (c .before .before .before .before .before .before .replay .ensures)))))
     (λ c κs. search needs)
     (λ c. search needs)
     (λ c. search needs)

@@ -8,25 +8,12 @@ use borrow.Author.Needs.{needs}
 use Rattle.night_file.proofs.check.Statement.{statement}
 use Rattle.night_file.proofs.check.Tie as tie
 
-returns : tie.Need-returns
-returns c = sym (finds-no-frame _ (sym (c .before .is-framed .ensures) ∙ not-true _ (c .if1 .taken)))
-
-word4-requires : tie.Need-word4-requires
-word4-requires c κs = let l = framed-length (c .before .before .before .args .file .now) (sym (c .before .is-framed .ensures) ∙ not-false _ (c .if1 .left)) in omega arith
-
 are-records-requires : tie.Need-are-records-requires
 unfolding recordCount
 are-records-requires c κs =
     let l = framed-length (c .before .before .before .before .args .file .now) (sym (c .before .before .is-framed .ensures) ∙ not-false _ (c .before .if1 .left)) in
     let e : c .word4 .result ≡ recordCount (c .before .before .before .before .args .file .now) = c .word4 .ensures in
     omega arith
-
-returns-2 : tie.Need-returns-2
-unfolding recordCount
-returns-2 c = sym (finds-no-record _ (rw (c .before .before .word4 .ensures) at (sym (c .before .are-records .ensures) ∙ not-true _ (c .if2 .taken))))
-
-part-refusal-end : tie.Need-part-refusal-end
-part-refusal-end c = let l = framed-length (c .before .before .before .before .before .before .args .file .now) (sym (c .before .before .before .before .is-framed .ensures) ∙ not-false _ (c .before .before .before .if1 .left)) in omega arith
 
 returns-3 : tie.Need-returns-3
 unfolding recordCount imageIn
@@ -46,17 +33,18 @@ returns-4 c =
     (c .if3 .left)))
 
 pub check-spec : {M : Type 1} → statement M
+unfolding recordCount
 check-spec =
     tie.close
     (tie.spec
     (λ c κs. search needs)
-    returns
-    word4-requires
+    (λ c. sym (finds-no-frame _ (sym (c .before .is-framed .ensures) ∙ not-true _ (c .if1 .taken))))
+    (λ c κs. let l = framed-length (c .before .before .before .args .file .now) (sym (c .before .is-framed .ensures) ∙ not-false _ (c .if1 .left)) in omega arith)
     are-records-requires
-    returns-2
+    (λ c. sym (finds-no-record _ (rw (c .before .before .word4 .ensures) at (sym (c .before .are-records .ensures) ∙ not-true _ (c .if2 .taken)))))
     (λ c. search needs)
     (λ c. search needs)
-    part-refusal-end
+    (λ c. let l = framed-length (c .before .before .before .before .before .before .args .file .now) (sym (c .before .before .before .before .is-framed .ensures) ∙ not-false _ (c .before .before .before .if1 .left)) in omega arith)
     (λ c κs. search needs)
     (λ c κs. search needs)
     returns-3

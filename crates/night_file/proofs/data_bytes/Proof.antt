@@ -6,11 +6,5 @@ use Rattle.bits.proofs.Tests.{pick-true, pick-false}
 use Rattle.night_file.proofs.data_bytes.Statement.{statement}
 use Rattle.night_file.proofs.data_bytes.Tie as tie
 
-returns : tie.Need-returns
-returns c = (sym (pick-true _ _ (lt-ltb _ _ (c .if1 .taken))), omega arith)
-
-returns-2 : tie.Need-returns-2
-returns-2 c = (sym (pick-false _ _ (le-ltb _ _ (c .if1 .left))), c .if1 .left)
-
 pub data-bytes-spec : {M : Type 1} → statement M
-data-bytes-spec = tie.close (tie.spec returns returns-2)
+data-bytes-spec = tie.close (tie.spec (λ c. (sym (pick-true _ _ (lt-ltb _ _ (c .if1 .taken))), omega arith)) (λ c. (sym (pick-false _ _ (le-ltb _ _ (c .if1 .left))), c .if1 .left)))

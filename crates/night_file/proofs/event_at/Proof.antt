@@ -5,11 +5,8 @@ use borrow.Author.Needs.{needs}
 use Rattle.night_file.proofs.event_at.Statement.{statement}
 use Rattle.night_file.proofs.event_at.Tie as tie
 
-returns : tie.Need-returns
-unfolding eventAt recordByte tab
-returns c = rw (c .before .before .before .before .before .before .before .before .call-at .ensures)
-
 pub event-at-spec : {M : Type 1} → statement M
+unfolding eventAt recordByte tab
 event-at-spec =
     tie.close
     (tie.spec
@@ -32,4 +29,4 @@ event-at-spec =
     (λ c. search needs)
     (λ c. search needs)
     (λ c. search needs)
-    returns)
+    (λ c. rw (c .before .before .before .before .before .before .before .before .call-at .ensures)))

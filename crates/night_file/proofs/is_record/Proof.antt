@@ -17,9 +17,6 @@ Inv-loop file k used rest₀ j₀ rest j = (j ≤ recordLength) × (eqb rest 0 �
 abbrev μ-loop : tie.MeasureT-loop
 μ-loop file k used rest₀ j₀ rest j = recordLength - j
 
-loop-holds : tie.Need-loop-holds Inv-loop μ-loop
-loop-holds c = (search needs, clear-begin _ _)
-
 loop-again : tie.Need-loop-again Inv-loop μ-loop
 loop-again c =
     let a = c .before .before .before .before .before .args in
@@ -43,7 +40,7 @@ is-record-spec =
     Inv-loop
     μ-loop
     (λ c κs. search needs)
-    loop-holds
+    (λ c. (search needs, clear-begin _ _))
     (λ c κs. search needs)
     (λ c. search needs)
     (λ c. search needs)

@@ -5,10 +5,7 @@ use borrow.Author.Needs.{needs}
 use Rattle.night_file.proofs.record_byte.Statement.{statement}
 use Rattle.night_file.proofs.record_byte.Tie as tie
 
-returns : tie.Need-returns
-unfolding recordByte
-returns c = refl
-
 pub record-byte-spec : {M : Type 1} → statement M
+unfolding recordByte
 record-byte-spec =
-    tie.close (tie.spec (λ c. search needs) (λ c. search needs) (λ c. search needs) (λ c. search needs) returns)
+    tie.close (tie.spec (λ c. search needs) (λ c. search needs) (λ c. search needs) (λ c. search needs) (λ c. refl))

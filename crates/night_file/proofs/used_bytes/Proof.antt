@@ -6,30 +6,6 @@ use borrow.Author.Needs.{needs}
 use Rattle.night_file.proofs.used_bytes.Statement.{statement}
 use Rattle.night_file.proofs.used_bytes.Tie as tie
 
-returns : tie.Need-returns
-unfolding usedBytes pick
-returns c = rw (← (c .before .before .before .record-byte .ensures), c .before .before .match .keys1, ← (c .before .record-byte2 .ensures), c .data-bytes .ensures .0)
-
-returns-2 : tie.Need-returns-2
-unfolding usedBytes pick
-returns-2 c = rw (← (c .before .record-byte .ensures), c .match .keys2)
-
-returns-3 : tie.Need-returns-3
-unfolding usedBytes pick
-returns-3 c = rw (← (c .before .record-byte .ensures), c .match .keys3)
-
-returns-4 : tie.Need-returns-4
-unfolding usedBytes pick
-returns-4 c = rw (← (c .before .record-byte .ensures), c .match .keys4)
-
-returns-5 : tie.Need-returns-5
-unfolding usedBytes pick
-returns-5 c = rw (← (c .before .record-byte .ensures), c .match .keys5)
-
-returns-6 : tie.Need-returns-6
-unfolding usedBytes pick
-returns-6 c = rw (← (c .before .record-byte .ensures), c .match .keys6)
-
 returns-7 : tie.Need-returns-7
 unfolding usedBytes pick
 returns-7 c =
@@ -44,6 +20,7 @@ returns-7 c =
     )
 
 pub used-bytes-spec : {M : Type 1} → statement M
+unfolding usedBytes pick
 used-bytes-spec =
     tie.close
     (tie.spec
@@ -51,10 +28,10 @@ used-bytes-spec =
     (λ c κs. search needs)
     (λ c κs. search needs)
     (λ c. search needs)
-    returns
-    returns-2
-    returns-3
-    returns-4
-    returns-5
-    returns-6
+    (λ c. rw (← (c .before .before .before .record-byte .ensures), c .before .before .match .keys1, ← (c .before .record-byte2 .ensures), c .data-bytes .ensures .0))
+    (λ c. rw (← (c .before .record-byte .ensures), c .match .keys2))
+    (λ c. rw (← (c .before .record-byte .ensures), c .match .keys3))
+    (λ c. rw (← (c .before .record-byte .ensures), c .match .keys4))
+    (λ c. rw (← (c .before .record-byte .ensures), c .match .keys5))
+    (λ c. rw (← (c .before .record-byte .ensures), c .match .keys6))
     returns-7)

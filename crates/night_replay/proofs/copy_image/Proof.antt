@@ -18,9 +18,6 @@ Inv-loop file image₀ i₀ image i = (i ≤ imageLength) × (length image ≡ i
 abbrev μ-loop : tie.MeasureT-loop
 μ-loop file image₀ i₀ image i = imageLength - i
 
-loop-holds : tie.Need-loop-holds Inv-loop μ-loop
-loop-holds c = (search needs, search needs, refl)
-
 loop-again : tie.Need-loop-again Inv-loop μ-loop
 loop-again c =
     let file = c .before .before .before .args .file .now in
@@ -43,7 +40,7 @@ copy-image-spec =
     (tie.spec
     Inv-loop
     μ-loop
-    loop-holds
+    (λ c. (search needs, search needs, refl))
     (λ c. search needs)
     (λ c. search needs)
     (λ c. search needs)

@@ -4,13 +4,6 @@ use borrow.Author.Needs.{needs}
 use Rattle.night_replay.proofs.count_of.Statement.{statement}
 use Rattle.night_replay.proofs.count_of.Tie as tie
 
-returns : tie.Need-returns
-unfolding countOf
-returns c = rw (c .enum-told .given .1)
-
-returns-2 : tie.Need-returns-2
-unfolding countOf
-returns-2 c = rw (c .before .answer .given .1)
-
 pub count-of-spec : {M : Type 1} → statement M
-count-of-spec = tie.close (tie.spec (λ c. search needs) (λ c. search needs) returns returns-2)
+unfolding countOf
+count-of-spec = tie.close (tie.spec (λ c. search needs) (λ c. search needs) (λ c. rw (c .enum-told .given .1)) (λ c. rw (c .before .answer .given .1)))

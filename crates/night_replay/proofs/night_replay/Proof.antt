@@ -5,8 +5,5 @@ use Rattle.contracts.specs.Texts.{countOf}
 use Rattle.night_replay.proofs.night_replay.Statement.{statement}
 use Rattle.night_replay.proofs.night_replay.Tie as tie
 
-returns : tie.Need-returns
-returns c = let g = c .before .before .before .replay .ensures in record { answer = c .count-of .ensures ∙ ap countOf (g .answer); buffer = g .buffer }
-
 pub night-replay-spec : {M : Type 1} → statement M
-night-replay-spec = tie.close (tie.spec (λ c κs. search needs) (λ c κs. search needs) (λ c. search needs) returns)
+night-replay-spec = tie.close (tie.spec (λ c κs. search needs) (λ c κs. search needs) (λ c. search needs) (λ c. let g = c .before .before .before .replay .ensures in record { answer = c .count-of .ensures ∙ ap countOf (g .answer); buffer = g .buffer }))

@@ -8,16 +8,10 @@ use borrow.Author.Needs.{needs}
 use Rattle.night_replay.proofs.print_bad.Statement.{statement}
 use Rattle.night_replay.proofs.print_bad.Tie as tie
 
-returns : tie.Need-returns
-returns c = gives-none (c .if1 .taken)
-
 put-bad-requires : tie.Need-put-bad-requires
 put-bad-requires c κs =
     let most = bad-most (number (c .before .before .before .before .args .answer)) (number-lt (c .before .before .before .before .args .answer)) in
     rw (c .number .ensures) (omega arith)
 
-returns-2 : tie.Need-returns-2
-returns-2 c = gives-text (c .before .before .before .before .before .if1 .left) (rw (c .before .before .before .number .ensures) at (c .before .before .put-bad .ensures))
-
 pub print-bad-spec : {M : Type 1} → statement M
-print-bad-spec = tie.close (tie.spec returns (λ c κs. search needs) put-bad-requires (λ c. search needs) returns-2)
+print-bad-spec = tie.close (tie.spec (λ c. gives-none (c .if1 .taken)) (λ c κs. search needs) put-bad-requires (λ c. search needs) (λ c. gives-text (c .before .before .before .before .before .if1 .left) (rw (c .before .before .before .number .ensures) at (c .before .before .put-bad .ensures))))

@@ -6,18 +6,8 @@ use borrow.Author.Needs.{needs}
 use Rattle.night_replay.proofs.replay.Statement.{statement}
 use Rattle.night_replay.proofs.replay.Tie as tie
 
-print-good-requires : tie.Need-print-good-requires
-print-good-requires c κs = sym (c .before .before .before .before .check .ensures) ∙ c .before .before .found2 .given .1
-
-returns : tie.Need-returns
-unfolding roomFor
-returns c = let e = sym (c .before .before .before .before .before .before .before .check .ensures) ∙ c .before .before .before .before .before .found .given .1 in rw (prints-refused _ _ e, e) (c .before .before .print-bad .ensures)
-
-returns-2 : tie.Need-returns-2
-unfolding roomFor
-returns-2 c = let e = sym (c .before .before .before .before .before .before .before .check .ensures) ∙ c .before .before .before .before .before .found2 .given .1 in rw e (c .before .before .print-good .ensures)
-
 pub replay-spec : {M : Type 1} → statement M
+unfolding roomFor
 replay-spec =
     tie.close
     (tie.spec
@@ -25,8 +15,8 @@ replay-spec =
     (λ c. search needs)
     (λ c κs. search needs)
     (λ c. search needs)
-    print-good-requires
+    (λ c κs. sym (c .before .before .before .before .check .ensures) ∙ c .before .before .found2 .given .1)
     (λ c. search needs)
-    returns
+    (λ c. let e = sym (c .before .before .before .before .before .before .before .check .ensures) ∙ c .before .before .before .before .before .found .given .1 in rw (prints-refused _ _ e, e) (c .before .before .print-bad .ensures))
     (λ c. search needs)
-    returns-2)
+    (λ c. let e = sym (c .before .before .before .before .before .before .before .check .ensures) ∙ c .before .before .before .before .before .found2 .given .1 in rw e (c .before .before .print-good .ensures)))

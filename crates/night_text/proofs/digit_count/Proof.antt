@@ -15,13 +15,6 @@ Inv-loop x rest₀ n₀ rest n = (1 ≤ n) × (n ≤ 10) × (length (decimal x) 
 abbrev μ-loop : tie.MeasureT-loop
 μ-loop x rest₀ n₀ rest n = 10 - n
 
-loop-holds : tie.Need-loop-holds Inv-loop μ-loop
-unfolding decimal
-loop-holds c = (omega arith, omega arith, omega arith)
-
-returns : tie.Need-returns Inv-loop μ-loop
-returns c = omega (arith, count-last (10 - c .before .before .loop .n) (c .before .before .loop .rest) (omega arith))
-
 loop-again : tie.Need-loop-again Inv-loop μ-loop
 loop-again c =
     let n = c .before .before .loop .n in
@@ -38,5 +31,6 @@ returns-2 c =
     omega arith
 
 pub digit-count-spec : {M : Type 1} → statement M
+unfolding decimal
 digit-count-spec =
-    tie.close (tie.spec Inv-loop μ-loop loop-holds returns (λ c. search needs) (λ c. search needs) loop-again returns-2)
+    tie.close (tie.spec Inv-loop μ-loop (λ c. (omega arith, omega arith, omega arith)) (λ c. omega (arith, count-last (10 - c .before .before .loop .n) (c .before .before .loop .rest) (omega arith))) (λ c. search needs) (λ c. search needs) loop-again returns-2)

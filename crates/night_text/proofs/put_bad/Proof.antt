@@ -7,17 +7,6 @@ use borrow.Author.Needs.{needs}
 use Rattle.night_text.proofs.put_bad.Statement.{statement}
 use Rattle.night_text.proofs.put_bad.Tie as tie
 
-put-bad-word-requires : tie.Need-put-bad-word-requires
-put-bad-word-requires c κs = omega (arith, bad-room (c .before .before .args .answer))
-
-put-decimal-requires : tie.Need-put-decimal-requires
-unfolding ascii
-put-decimal-requires c κs = omega (arith, bad-room (c .before .before .before .before .before .before .args .answer))
-
-put-byte-requires : tie.Need-put-byte-requires
-unfolding ascii
-put-byte-requires c κs = omega (arith, bad-room (c .before .before .before .before .before .before .before .before .before .before .args .answer))
-
 returns : tie.Need-returns
 unfolding badLine ascii
 returns c =
@@ -25,6 +14,7 @@ returns c =
     puts-then (omega arith) (puts-then (omega arith) (c .before .before .before .before .before .before .before .before .before .before .put-bad-word .ensures) (c .before .before .before .before .before .before .put-decimal .ensures)) (c .before .before .put-byte .ensures)
 
 pub put-bad-spec : {M : Type 1} → statement M
+unfolding ascii
 put-bad-spec =
     tie.close
-    (tie.spec put-bad-word-requires put-decimal-requires put-byte-requires (λ c. search needs) returns)
+    (tie.spec (λ c κs. omega (arith, bad-room (c .before .before .args .answer))) (λ c κs. omega (arith, bad-room (c .before .before .before .before .before .before .args .answer))) (λ c κs. omega (arith, bad-room (c .before .before .before .before .before .before .before .before .before .before .args .answer))) (λ c. search needs) returns)

@@ -9,30 +9,18 @@ use borrow.Author.Needs.{needs}
 use Rattle.night_text.proofs.put_bad_word.Statement.{statement}
 use Rattle.night_text.proofs.put_bad_word.Tie as tie
 
-slice-write-out-2 : tie.Need-slice-write-out-2
-slice-write-out-2 c = simp length-set (search needs)
-
-slice-write-out-3 : tie.Need-slice-write-out-3
-slice-write-out-3 c = simp length-set (search needs)
-
-slice-write-out-4 : tie.Need-slice-write-out-4
-slice-write-out-4 c = simp length-set (search needs)
-
-returns : tie.Need-returns
-unfolding ascii
-returns c = record { buffer = simp unary-clauses (laid-sets (c .args .at) (ascii "bad ") _ (omega arith)); next = refl }
-
 pub put-bad-word-spec : {M : Type 1} → statement M
+unfolding ascii
 put-bad-word-spec =
     tie.close
     (tie.spec
     (λ c. search needs)
     (λ c. search needs)
-    slice-write-out-2
+    (λ c. simp length-set (search needs))
     (λ c. search needs)
-    slice-write-out-3
+    (λ c. simp length-set (search needs))
     (λ c. search needs)
-    slice-write-out-4
+    (λ c. simp length-set (search needs))
     (λ c. search needs)
     (λ c. search needs)
-    returns)
+    (λ c. record { buffer = simp unary-clauses (laid-sets (c .args .at) (ascii "bad ") _ (omega arith)); next = refl }))

@@ -7,8 +7,5 @@ use borrow.Author.Needs.{needs}
 use Rattle.night_text.proofs.put_byte.Statement.{statement}
 use Rattle.night_text.proofs.put_byte.Tie as tie
 
-returns : tie.Need-returns
-returns c = record { buffer = laid-sets (c .args .at) (c .args .b ∷ []) _ (omega arith); next = refl }
-
 pub put-byte-spec : {M : Type 1} → statement M
-put-byte-spec = tie.close (tie.spec (λ c. search needs) (λ c. search needs) (λ c. search needs) returns)
+put-byte-spec = tie.close (tie.spec (λ c. search needs) (λ c. search needs) (λ c. search needs) (λ c. record { buffer = laid-sets (c .args .at) (c .args .b ∷ []) _ (omega arith); next = refl }))

@@ -17,9 +17,6 @@ Inv-loop out₀ at x n rest₀ left₀ out rest left = (left ≤ n) × (length o
 abbrev μ-loop : tie.MeasureT-loop
 μ-loop out₀ at x n rest₀ left₀ out rest left = left
 
-loop-holds : tie.Need-loop-holds Inv-loop μ-loop
-loop-holds c = (search needs, refl, rw (c .digit-count .ensures, ← decimal-digits (c .before .before .args .x)))
-
 loop-again : tie.Need-loop-again Inv-loop μ-loop
 loop-again c =
     let i = c .before .before .loop .inv in
@@ -41,7 +38,7 @@ put-decimal-spec =
     Inv-loop
     μ-loop
     (λ c κs. search needs)
-    loop-holds
+    (λ c. (search needs, refl, rw (c .digit-count .ensures, ← decimal-digits (c .before .before .args .x))))
     (λ c. search needs)
     (λ c. search needs)
     (λ c κs. search needs)

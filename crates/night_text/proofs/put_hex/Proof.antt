@@ -17,10 +17,6 @@ Inv-loop out₀ at bytes count i₀ out i = (i ≤ count) × (length out ≡ len
 abbrev μ-loop : tie.MeasureT-loop
 μ-loop out₀ at bytes count i₀ out i = count - i
 
-loop-holds : tie.Need-loop-holds Inv-loop μ-loop
-unfolding hexBytes
-loop-holds c = (search needs, refl, sym (laid-none _ _))
-
 loop-again : tie.Need-loop-again Inv-loop μ-loop
 unfolding hexByte
 loop-again c =
@@ -35,12 +31,13 @@ returns c =
     record { buffer = rw e at (c .before .loop .inv .2); next = rw (length-hex-taken (a .count) (a .bytes .now) (omega arith)) }
 
 pub put-hex-spec : {M : Type 1} → statement M
+unfolding hexBytes
 put-hex-spec =
     tie.close
     (tie.spec
     Inv-loop
     μ-loop
-    loop-holds
+    (λ c. (search needs, refl, sym (laid-none _ _)))
     (λ c. search needs)
     (λ c. search needs)
     (λ c. search needs)

@@ -8,15 +8,6 @@ use borrow.Author.Needs.{needs}
 use Rattle.night_text.proofs.put_hex_byte.Statement.{statement}
 use Rattle.night_text.proofs.put_hex_byte.Tie as tie
 
-slice-write-out-2 : tie.Need-slice-write-out-2
-slice-write-out-2 c = simp length-set (search needs)
-
-slice-write-out-3 : tie.Need-slice-write-out-3
-slice-write-out-3 c = simp length-set (search needs)
-
-returns : tie.Need-returns
-returns c = rw (← (c .before .digit .ensures), ← (c .digit2 .ensures)) (simp unary-clauses (laid-sets (c .before .before .before .args .at) (32 ∷ c .before .digit .result ∷ c .digit2 .result ∷ []) _ (omega arith)))
-
 pub put-hex-byte-spec : {M : Type 1} → statement M
 put-hex-byte-spec =
     tie.close
@@ -25,8 +16,8 @@ put-hex-byte-spec =
     (λ c κs. search needs)
     (λ c. search needs)
     (λ c. search needs)
-    slice-write-out-2
+    (λ c. simp length-set (search needs))
     (λ c. search needs)
-    slice-write-out-3
+    (λ c. simp length-set (search needs))
     (λ c. search needs)
-    returns)
+    (λ c. rw (← (c .before .digit .ensures), ← (c .digit2 .ensures)) (simp unary-clauses (laid-sets (c .before .before .before .args .at) (32 ∷ c .before .digit .result ∷ c .digit2 .result ∷ []) _ (omega arith)))))

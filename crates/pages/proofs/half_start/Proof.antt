@@ -6,13 +6,6 @@ use borrow.Author.Needs.{needs}
 use Rattle.pages.proofs.half_start.Statement.{statement}
 use Rattle.pages.proofs.half_start.Tie as tie
 
-returns : tie.Need-returns
-unfolding halfStart pick
-returns c = rw (lt-ltb _ _ (c .if1 .taken))
-
-returns-2 : tie.Need-returns-2
-unfolding halfStart pick
-returns-2 c = rw (le-ltb _ _ (c .before .if1 .left)) (c .selected-start .ensures)
-
 pub half-start-spec : {M : Type 1} → statement M
-half-start-spec = tie.close (tie.spec returns (λ c κs. search needs) returns-2)
+unfolding halfStart pick
+half-start-spec = tie.close (tie.spec (λ c. rw (lt-ltb _ _ (c .if1 .taken))) (λ c κs. search needs) (λ c. rw (le-ltb _ _ (c .before .if1 .left)) (c .selected-start .ensures)))

@@ -4,15 +4,8 @@ use borrow.Author.Needs.{needs}
 use Rattle.pages.proofs.selected_start.Statement.{statement}
 use Rattle.pages.proofs.selected_start.Tie as tie
 
-returns : tie.Need-returns
-unfolding selectedStart
-returns c = rw (← (c .before .before .page-place .ensures), c .enum-told .given .1)
-
-returns-2 : tie.Need-returns-2
-unfolding selectedStart
-returns-2 c = rw (← (c .before .before .before .page-place .ensures), c .before .start .given .1)
-
 pub selected-start-spec : {M : Type 1} → statement M
+unfolding selectedStart
 selected-start-spec =
     tie.close
     (tie.spec
@@ -21,5 +14,5 @@ selected-start-spec =
     (λ c κs. search needs)
     (λ c. search needs)
     (λ c. search needs)
-    returns
-    returns-2)
+    (λ c. rw (← (c .before .before .page-start .ensures), c .enum-told .given .1))
+    (λ c. rw (← (c .before .before .before .page-start .ensures), c .before .start .given .1)))

@@ -5,11 +5,5 @@ use borrow.Author.Needs.{needs}
 use Rattle.pages_window.proofs.shown.Statement.{statement}
 use Rattle.pages_window.proofs.shown.Tie as tie
 
-returns : tie.Need-returns
-returns c = sym (shown-trigger _ _ (c .if1 .taken))
-
-returns-2 : tie.Need-returns-2
-returns-2 c = sym (shown-byte _ _ (c .if1 .left))
-
 pub shown-spec : {M : Type 1} → statement M
-shown-spec = tie.close (tie.spec (λ c. search needs) returns returns-2)
+shown-spec = tie.close (tie.spec (λ c. search needs) (λ c. sym (shown-trigger _ _ (c .if1 .taken))) (λ c. sym (shown-byte _ _ (c .if1 .left))))

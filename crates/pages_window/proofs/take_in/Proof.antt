@@ -17,9 +17,6 @@ Inv-loop image start offset count buffer₀ first k₀ buffer k =
 abbrev μ-loop : tie.MeasureT-loop
 μ-loop image start offset count buffer₀ first k₀ buffer k = count - k
 
-loop-holds : tie.Need-loop-holds Inv-loop μ-loop
-loop-holds c = (search needs, search needs, take-begin _ _ _)
-
 loop-again : tie.Need-loop-again Inv-loop μ-loop
 loop-again c =
     let i = c .before .before .loop .inv in
@@ -37,7 +34,7 @@ take-in-spec =
     Inv-loop
     μ-loop
     (λ c. search needs)
-    loop-holds
+    (λ c. (search needs, search needs, take-begin _ _ _))
     (λ c. search needs)
     (λ c κs. search needs)
     (λ c. search needs)

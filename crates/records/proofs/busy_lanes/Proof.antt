@@ -20,9 +20,6 @@ loop-again c =
     let yes = c .before .is-in-progress .ensures ∙ ap isInProgress (c .before .before .stage-at .ensures) in
     (search needs, mask-turn _ _ _ _ _ (c .before .before .before .before .loop .inv .1) yes (c .with-lane .ensures))
 
-returns : tie.Need-returns Inv-loop μ-loop
-returns c = let e : c .before .loop .lane ≡ laneCount = omega arith in rw e at (c .before .loop .inv .1)
-
 pub busy-lanes-spec : {M : Type 1} → statement M
 busy-lanes-spec =
     tie.close
@@ -36,4 +33,4 @@ busy-lanes-spec =
     (λ c. search needs)
     (λ c. search needs)
     loop-again
-    returns)
+    (λ c. let e : c .before .loop .lane ≡ laneCount = omega arith in rw e at (c .before .loop .inv .1)))

@@ -20,27 +20,18 @@ Inv-loop w group used₀ lane₀ used lane = (lane ≤ 8) × (used ≡ anyBelow 
 abbrev μ-loop : tie.MeasureT-loop
 μ-loop w group used₀ lane₀ used lane = 8 - lane
 
-loop-holds : tie.Need-loop-holds Inv-loop μ-loop
-loop-holds c = (search needs, any-begin _)
-
-loop-again : tie.Need-loop-again Inv-loop μ-loop
-loop-again c = (search needs, some-turn _ _ _ _ _ _ (c .before .before .before .before .loop .inv .1) (c .before .is-in .ensures) (c .is-used .ensures ∙ ap isUsed (c .before .before .held-at .ensures)))
-
-returns : tie.Need-returns Inv-loop μ-loop
-unfolding isRelease someIn
-returns c = let e : c .before .loop .lane ≡ 8 = omega arith in ap not (rw e at (c .before .loop .inv .1))
-
 pub is-release-spec : {M : Type 1} → statement M
+unfolding isRelease someIn
 is-release-spec =
     tie.close
     (tie.spec
     Inv-loop
     μ-loop
-    loop-holds
+    (λ c. (search needs, any-begin _))
     (λ c κs. search needs)
     (λ c κs. search needs)
     (λ c κs. search needs)
     (λ c. search needs)
     (λ c. search needs)
-    loop-again
-    returns)
+    (λ c. (search needs, some-turn _ _ _ _ _ _ (c .before .before .before .before .loop .inv .1) (c .before .is-in .ensures) (c .is-used .ensures ∙ ap isUsed (c .before .before .held-at .ensures))))
+    (λ c. let e : c .before .loop .lane ≡ 8 = omega arith in ap not (rw e at (c .before .loop .inv .1))))

@@ -4,9 +4,6 @@ use Rattle.model.specs.Records.{withStage}
 use Rattle.records.proofs.with_stage.Statement.{statement}
 use Rattle.records.proofs.with_stage.Tie as tie
 
-returns : tie.Need-returns
-unfolding withStage
-returns c = refl
-
 pub with-stage-spec : {M : Type 1} → statement M
-with-stage-spec = tie.close (tie.spec returns)
+unfolding withStage
+with-stage-spec = tie.close (tie.spec (λ c. refl))

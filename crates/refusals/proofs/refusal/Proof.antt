@@ -6,12 +6,6 @@ use Rattle.refusals.proofs.Entries.{entry-length, entry-flat, entry-uns
 use Rattle.refusals.proofs.refusal.Statement.{statement}
 use Rattle.refusals.proofs.refusal.Tie as tie
 
-returns : tie.Need-returns
-returns c = entry-length _ (c .if1 .taken)
-
-returns-2 : tie.Need-returns-2
-returns-2 c = entry-flat _ (c .before .before .if1 .left) (sym (c .before .is-flat .ensures) ∙ c .if2 .taken)
-
 returns-3 : tie.Need-returns-3
 returns-3 c =
     entry-unsound _
@@ -28,4 +22,4 @@ returns-4 c =
 
 pub refusal-spec : {M : Type 1} → statement M
 refusal-spec =
-    tie.close (tie.spec returns (λ c κs. search needs) returns-2 (λ c κs. search needs) returns-3 returns-4)
+    tie.close (tie.spec (λ c. entry-length _ (c .if1 .taken)) (λ c κs. search needs) (λ c. entry-flat _ (c .before .before .if1 .left) (sym (c .before .is-flat .ensures) ∙ c .if2 .taken)) (λ c κs. search needs) returns-3 returns-4)

@@ -12,9 +12,6 @@ returns c =
     (not-done _ _ _ (c .before .before .before .refusal .ensures) (c .before .before .number .ensures) (c .before .if1 .taken))
     (c .reply .ensures)
 
-step-requires : tie.Need-step-requires
-step-requires c κs = entered-length _ (is-done _ _ _ (c .before .before .before .before .refusal .ensures) (c .before .before .before .number .ensures) (c .before .before .if1 .left))
-
 returns-2 : tie.Need-returns-2
 returns-2 c =
     call-step _ _ _ _ _ _
@@ -30,7 +27,7 @@ call-spec =
     (λ c κs. search needs)
     (λ c. search needs)
     returns
-    step-requires
+    (λ c κs. entered-length _ (is-done _ _ _ (c .before .before .before .before .refusal .ensures) (c .before .before .before .number .ensures) (c .before .before .if1 .left)))
     (λ c. search needs)
     (λ c. search needs)
     returns-2)

@@ -6,9 +6,6 @@ use Rattle.registers.proofs.Calls.{bytes-unused}
 use Rattle.registers.proofs.read.Statement.{statement}
 use Rattle.registers.proofs.read.Tie as tie
 
-returns : tie.Need-returns
-unfolding eventEffect
-returns c = bytes-unused _ _ _ _ _ _ _ refl (c .before .before .before .before .call .ensures)
-
 pub read-spec : {M : Type 1} → statement M
-read-spec = tie.close (tie.spec (λ c κs. search needs) (λ c. search needs) (λ c. search needs) returns)
+unfolding eventEffect
+read-spec = tie.close (tie.spec (λ c κs. search needs) (λ c. search needs) (λ c. search needs) (λ c. bytes-unused _ _ _ _ _ _ _ refl (c .before .before .before .before .call .ensures)))

@@ -13,9 +13,6 @@ returns c =
     (not-done _ _ _ (c .before .before .before .refusal .ensures) (c .before .before .number .ensures) (c .before .if1 .taken))
     (rw (c .before .before .before .before .before .idle .ensures) at (c .reply .ensures))
 
-reset-requires : tie.Need-reset-requires
-reset-requires c κs = taken-length _ (is-done _ _ _ (c .before .before .before .refusal .ensures) (c .before .before .number .ensures) (c .before .if1 .left))
-
 returns-2 : tie.Need-returns-2
 returns-2 c =
     start-done _ _ _ _
@@ -34,7 +31,7 @@ start-spec =
     (λ c κs. search needs)
     (λ c. search needs)
     returns
-    reset-requires
+    (λ c κs. taken-length _ (is-done _ _ _ (c .before .before .before .refusal .ensures) (c .before .before .number .ensures) (c .before .if1 .left)))
     (λ c κs. search needs)
     (λ c. search needs)
     returns-2)

@@ -4,8 +4,5 @@ use Rattle.registers.proofs.Calls.{left-empty}
 use Rattle.registers.proofs.without_buffer.Statement.{statement}
 use Rattle.registers.proofs.without_buffer.Tie as tie
 
-returns : tie.Need-returns
-returns c = left-empty _ _ _ _ _ _ (c .before .before .before .call .kept .1 .1 .1 .0) (c .before .before .before .call .ensures)
-
 pub without-buffer-spec : {M : Type 1} → statement M
-without-buffer-spec = tie.close (tie.spec (λ c. search needs) (λ c κs. search needs) (λ c. search needs) returns)
+without-buffer-spec = tie.close (tie.spec (λ c. search needs) (λ c κs. search needs) (λ c. search needs) (λ c. left-empty _ _ _ _ _ _ (c .before .before .before .call .kept .1 .1 .1 .0) (c .before .before .before .call .ensures)))

@@ -6,9 +6,6 @@ use Rattle.registers.proofs.Calls.{bytes-unused}
 use Rattle.registers.proofs.work.Statement.{statement}
 use Rattle.registers.proofs.work.Tie as tie
 
-returns : tie.Need-returns
-unfolding eventEffect
-returns c = bytes-unused _ _ _ _ _ _ _ refl (c .before .before .without-buffer .ensures)
-
 pub work-spec : {M : Type 1} → statement M
-work-spec = tie.close (tie.spec (λ c κs. search needs) (λ c. search needs) returns)
+unfolding eventEffect
+work-spec = tie.close (tie.spec (λ c κs. search needs) (λ c. search needs) (λ c. bytes-unused _ _ _ _ _ _ _ refl (c .before .before .without-buffer .ensures)))

@@ -5,8 +5,5 @@ use Rattle.sound.proofs.Conditions.{rest-by}
 use Rattle.sound.proofs.is_at_rest.Statement.{statement}
 use Rattle.sound.proofs.is_at_rest.Tie as tie
 
-returns : tie.Need-returns
-returns c = rest-by _ _ _ _ (omega arith) (c .before .nibble .ensures) (c .lane-bit .ensures)
-
 pub is-at-rest-spec : {M : Type 1} → statement M
-is-at-rest-spec = tie.close (tie.spec (λ c κs. search needs) (λ c κs. search needs) returns)
+is-at-rest-spec = tie.close (tie.spec (λ c κs. search needs) (λ c κs. search needs) (λ c. rest-by _ _ _ _ (omega arith) (c .before .nibble .ensures) (c .lane-bit .ensures)))

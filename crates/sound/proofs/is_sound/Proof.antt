@@ -17,25 +17,16 @@ Inv-loop image w all₀ lane₀ all lane = (lane ≤ 8) × (all ≡ allBelow lan
 abbrev μ-loop : tie.MeasureT-loop
 μ-loop image w all₀ lane₀ all lane = 8 - lane
 
-loop-holds : tie.Need-loop-holds Inv-loop μ-loop
-loop-holds c = (search needs, all-begin _)
-
-loop-again : tie.Need-loop-again Inv-loop μ-loop
-loop-again c = (search needs, all-turn _ _ _ _ (c .before .before .loop .inv .1) (c .is-lane-sound .ensures))
-
-returns : tie.Need-returns Inv-loop μ-loop
-unfolding isSound
-returns c = let e : c .before .loop .lane ≡ 8 = omega arith in rw e at (c .before .loop .inv .1)
-
 pub is-sound-spec : {M : Type 1} → statement M
+unfolding isSound
 is-sound-spec =
     tie.close
     (tie.spec
     Inv-loop
     μ-loop
-    loop-holds
+    (λ c. (search needs, all-begin _))
     (λ c κs. search needs)
     (λ c. search needs)
     (λ c. search needs)
-    loop-again
-    returns)
+    (λ c. (search needs, all-turn _ _ _ _ (c .before .before .loop .inv .1) (c .is-lane-sound .ensures)))
+    (λ c. let e : c .before .loop .lane ≡ 8 = omega arith in rw e at (c .before .loop .inv .1)))

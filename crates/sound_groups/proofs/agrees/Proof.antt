@@ -7,15 +7,8 @@ use Rattle.model.specs.Sound.{agrees}
 use Rattle.sound_groups.proofs.agrees.Statement.{statement}
 use Rattle.sound_groups.proofs.agrees.Tie as tie
 
-returns : tie.Need-returns
-unfolding agrees
-returns c = rw (c .enum-told .given .1)
-
-returns-2 : tie.Need-returns-2
-unfolding agrees
-returns-2 c = rw (c .before .before .before .before .before .stage .given .1, c .before .same-trigger .ensures, c .same-verdict .ensures) (and-both _ _ ∙ ap (both _) (and-both _ _))
-
 pub agrees-spec : {M : Type 1} → statement M
+unfolding agrees
 agrees-spec =
     tie.close
     (tie.spec
@@ -23,5 +16,5 @@ agrees-spec =
     (λ c. search needs)
     (λ c κs. search needs)
     (λ c κs. search needs)
-    returns
-    returns-2)
+    (λ c. rw (c .enum-told .given .1))
+    (λ c. rw (c .before .before .before .before .before .stage .given .1, c .before .same-trigger .ensures, c .same-verdict .ensures) (and-both _ _ ∙ ap (both _) (and-both _ _))))

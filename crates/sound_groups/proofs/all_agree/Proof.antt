@@ -18,27 +18,18 @@ Inv-loop w p all₀ lane₀ all lane = (lane ≤ 8) × (all ≡ allBelow lane (�
 abbrev μ-loop : tie.MeasureT-loop
 μ-loop w p all₀ lane₀ all lane = 8 - lane
 
-loop-holds : tie.Need-loop-holds Inv-loop μ-loop
-loop-holds c = (search needs, all-begin _)
-
-loop-again : tie.Need-loop-again Inv-loop μ-loop
-loop-again c = (search needs, every-turn _ _ _ _ _ _ (c .before .before .before .before .loop .inv .1) (c .is-in .ensures) (c .before .agrees .ensures ∙ ap (agrees _) (c .before .before .stage-at .ensures)))
-
-returns : tie.Need-returns Inv-loop μ-loop
-unfolding everyIn
-returns c = let e : c .before .loop .lane ≡ 8 = omega arith in rw e at (c .before .loop .inv .1)
-
 pub all-agree-spec : {M : Type 1} → statement M
+unfolding everyIn
 all-agree-spec =
     tie.close
     (tie.spec
     Inv-loop
     μ-loop
-    loop-holds
+    (λ c. (search needs, all-begin _))
     (λ c κs. search needs)
     (λ c κs. search needs)
     (λ c κs. search needs)
     (λ c. search needs)
     (λ c. search needs)
-    loop-again
-    returns)
+    (λ c. (search needs, every-turn _ _ _ _ _ _ (c .before .before .before .before .loop .inv .1) (c .is-in .ensures) (c .before .agrees .ensures ∙ ap (agrees _) (c .before .before .stage-at .ensures))))
+    (λ c. let e : c .before .loop .lane ≡ 8 = omega arith in rw e at (c .before .loop .inv .1)))

@@ -4,13 +4,6 @@ use Rattle.model.specs.Sound.{sameTrigger}
 use Rattle.sound_groups.proofs.is_init.Statement.{statement}
 use Rattle.sound_groups.proofs.is_init.Tie as tie
 
-returns : tie.Need-returns
-unfolding sameTrigger
-returns c = rw (c .enum-told .given .1)
-
-returns-2 : tie.Need-returns-2
-unfolding sameTrigger
-returns-2 c = rw (c .enum-told2 .given .1)
-
 pub is-init-spec : {M : Type 1} → statement M
-is-init-spec = tie.close (tie.spec (λ c. search needs) (λ c. search needs) returns returns-2)
+unfolding sameTrigger
+is-init-spec = tie.close (tie.spec (λ c. search needs) (λ c. search needs) (λ c. rw (c .enum-told .given .1)) (λ c. rw (c .enum-told2 .given .1)))

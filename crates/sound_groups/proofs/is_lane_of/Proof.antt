@@ -5,13 +5,6 @@ use Rattle.bits.specs.Choice.{both}
 use Rattle.sound_groups.proofs.is_lane_of.Statement.{statement}
 use Rattle.sound_groups.proofs.is_lane_of.Tie as tie
 
-returns : tie.Need-returns
-unfolding both
-returns c = rw (lt-ltb _ _ (c .before .if1 .taken), both) (c .is-in .ensures)
-
-returns-2 : tie.Need-returns-2
-unfolding both
-returns-2 c = rw (le-ltb _ _ (c .if1 .left), both)
-
 pub is-lane-of-spec : {M : Type 1} → statement M
-is-lane-of-spec = tie.close (tie.spec (λ c κs. search needs) returns returns-2)
+unfolding both
+is-lane-of-spec = tie.close (tie.spec (λ c κs. search needs) (λ c. rw (lt-ltb _ _ (c .before .if1 .taken), both) (c .is-in .ensures)) (λ c. rw (le-ltb _ _ (c .if1 .left), both)))

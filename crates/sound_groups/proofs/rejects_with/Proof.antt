@@ -4,13 +4,6 @@ use Rattle.model.specs.Sound.{sameVerdict}
 use Rattle.sound_groups.proofs.rejects_with.Statement.{statement}
 use Rattle.sound_groups.proofs.rejects_with.Tie as tie
 
-returns : tie.Need-returns
-unfolding sameVerdict
-returns c = rw (c .enum-told .given .1)
-
-returns-2 : tie.Need-returns-2
-unfolding sameVerdict
-returns-2 c = rw (c .before .verdict .given .1)
-
 pub rejects-with-spec : {M : Type 1} → statement M
-rejects-with-spec = tie.close (tie.spec (λ c. search needs) (λ c. search needs) returns returns-2)
+unfolding sameVerdict
+rejects-with-spec = tie.close (tie.spec (λ c. search needs) (λ c. search needs) (λ c. rw (c .enum-told .given .1)) (λ c. rw (c .before .verdict .given .1)))

@@ -3,12 +3,6 @@ use borrow.Author.Needs.{needs}
 use Rattle.sound_groups.proofs.same_verdict.Statement.{statement}
 use Rattle.sound_groups.proofs.same_verdict.Tie as tie
 
-returns : tie.Need-returns
-returns c = rw (c .before .before .a .given .1) (c .passes-at .ensures)
-
-returns-2 : tie.Need-returns-2
-returns-2 c = rw (c .before .before .a2 .given .1) (c .rejects-with .ensures)
-
 pub same-verdict-spec : {M : Type 1} → statement M
 same-verdict-spec =
     tie.close
@@ -17,5 +11,5 @@ same-verdict-spec =
     (λ c κs. search needs)
     (λ c. search needs)
     (λ c κs. search needs)
-    returns
-    returns-2)
+    (λ c. rw (c .before .before .a .given .1) (c .passes-at .ensures))
+    (λ c. rw (c .before .before .a2 .given .1) (c .rejects-with .ensures)))

@@ -7,10 +7,6 @@ use Rattle.model.specs.Sound.{stageFits}
 use Rattle.sound_groups.proofs.stage_fits.Statement.{statement}
 use Rattle.sound_groups.proofs.stage_fits.Tie as tie
 
-returns : tie.Need-returns
-unfolding stageFits
-returns c = rw (c .enum-told .given .1)
-
 returns-2 : tie.Need-returns-2
 unfolding stageFits
 returns-2 c =
@@ -19,6 +15,7 @@ returns-2 c =
     (and-both _ _ ∙ ap₂ both (and-both _ _) (and-both _ _))
 
 pub stage-fits-spec : {M : Type 1} → statement M
+unfolding stageFits
 stage-fits-spec =
     tie.close
     (tie.spec
@@ -28,5 +25,5 @@ stage-fits-spec =
     (λ c κs. search needs)
     (λ c κs. search needs)
     (λ c κs. search needs)
-    returns
+    (λ c. rw (c .enum-told .given .1))
     returns-2)

@@ -6,16 +6,7 @@ use Rattle.sound_passing.proofs.Groups.{purpose-release, purpose-path, 
 use Rattle.sound_passing.proofs.has_purpose.Statement.{statement}
 use Rattle.sound_passing.proofs.has_purpose.Tie as tie
 
-returns : tie.Need-returns
-returns c = purpose-release _ _ _ (sym (c .before .is-release .ensures) ∙ c .if1 .taken)
-
-held-path-requires : tie.Need-held-path-requires
-held-path-requires c κs = (search needs, rw (c .next-in .ensures) (held-first _ _ (sym (c .before .before .is-release .ensures) ∙ c .before .if1 .left)))
-
-returns-2 : tie.Need-returns-2
-unfolding viewOf
-returns-2 c = purpose-path _ _ _ _ (sym (c .before .before .before .is-release .ensures) ∙ c .before .before .if1 .left) (rw (c .before .next-in .ensures) at (c .held-path .ensures))
-
 pub has-purpose-spec : {M : Type 1} → statement M
+unfolding viewOf
 has-purpose-spec =
-    tie.close (tie.spec (λ c κs. search needs) returns (λ c κs. search needs) held-path-requires returns-2)
+    tie.close (tie.spec (λ c κs. search needs) (λ c. purpose-release _ _ _ (sym (c .before .is-release .ensures) ∙ c .if1 .taken)) (λ c κs. search needs) (λ c κs. (search needs, rw (c .next-in .ensures) (held-first _ _ (sym (c .before .before .is-release .ensures) ∙ c .before .if1 .left)))) (λ c. purpose-path _ _ _ _ (sym (c .before .before .before .is-release .ensures) ∙ c .before .before .if1 .left) (rw (c .before .next-in .ensures) at (c .held-path .ensures))))

@@ -24,25 +24,16 @@ Inv-loop image w group n all₀ lane₀ all lane = (lane ≤ 8) × (all ≡ allB
 abbrev μ-loop : tie.MeasureT-loop
 μ-loop image w group n all₀ lane₀ all lane = 8 - lane
 
-loop-holds : tie.Need-loop-holds Inv-loop μ-loop
-loop-holds c = (search needs, all-begin _)
-
-loop-again : tie.Need-loop-again Inv-loop μ-loop
-loop-again c = (search needs, every-turn _ _ _ _ _ _ (c .before .before .before .loop .inv .1) (c .is-in .ensures) (or-implies _ _ ∙ ap (implies _) (c .before .is-copied .ensures)))
-
-returns : tie.Need-returns Inv-loop μ-loop
-returns c = let e : c .before .loop .lane ≡ 8 = omega arith in (rw e at (c .before .loop .inv .1)) ∙ copied-by _ _ _ _
-
 pub holds-copied-spec : {M : Type 1} → statement M
 holds-copied-spec =
     tie.close
     (tie.spec
     Inv-loop
     μ-loop
-    loop-holds
+    (λ c. (search needs, all-begin _))
     (λ c κs. search needs)
     (λ c κs. search needs)
     (λ c. search needs)
     (λ c. search needs)
-    loop-again
-    returns)
+    (λ c. (search needs, every-turn _ _ _ _ _ _ (c .before .before .before .loop .inv .1) (c .is-in .ensures) (or-implies _ _ ∙ ap (implies _) (c .before .is-copied .ensures))))
+    (λ c. let e : c .before .loop .lane ≡ 8 = omega arith in (rw e at (c .before .loop .inv .1)) ∙ copied-by _ _ _ _))

@@ -3,9 +3,6 @@ use borrow.Author.Needs.{needs}
 use Rattle.sound_passing.proofs.is_copied.Statement.{statement}
 use Rattle.sound_passing.proofs.is_copied.Tie as tie
 
-returns : tie.Need-returns
-returns c = rw (c .same-settings .ensures, c .before .written .ensures, c .before .before .held-at .ensures, c .before .before .before .settings-at .ensures)
-
 pub is-copied-spec : {M : Type 1} → statement M
 is-copied-spec =
     tie.close
@@ -14,4 +11,4 @@ is-copied-spec =
     (λ c κs. search needs)
     (λ c κs. search needs)
     (λ c κs. search needs)
-    returns)
+    (λ c. rw (c .same-settings .ensures, c .before .written .ensures, c .before .before .held-at .ensures, c .before .before .before .settings-at .ensures)))

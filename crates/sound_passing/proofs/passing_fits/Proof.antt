@@ -12,11 +12,8 @@ returns c =
     (c .before .before .before .before .before .verdict .given .1, c .before .before .before .has-purpose .ensures, c .before .before .rests .ensures, c .before .holds-copied .ensures, c .rest-is-whole .ensures)
     (four-by _ _ _ _)
 
-returns-2 : tie.Need-returns-2
-unfolding passingFits
-returns-2 c = rw (c .enum-told .given .1)
-
 pub passing-fits-spec : {M : Type 1} → statement M
+unfolding passingFits
 passing-fits-spec =
     tie.close
     (tie.spec
@@ -27,4 +24,4 @@ passing-fits-spec =
     (λ c κs. search needs)
     (λ c. search needs)
     returns
-    returns-2)
+    (λ c. rw (c .enum-told .given .1)))

@@ -6,15 +6,6 @@ use Rattle.sound_passing.proofs.Groups.{rest-unused, rest-next, rest-pa
 use Rattle.sound_passing.proofs.rest_is_whole.Statement.{statement}
 use Rattle.sound_passing.proofs.rest_is_whole.Tie as tie
 
-returns : tie.Need-returns
-returns c = rest-unused _ _ _ (rw (c .before .before .not-copied .ensures) at (sym (c .before .some-used .ensures) ∙ not-true _ (c .if1 .taken)))
-
-next-in-requires : tie.Need-next-in-requires
-next-in-requires c κs = rest-next _ _ _ (rw (c .before .before .not-copied .ensures) at (sym (c .before .some-used .ensures) ∙ not-false _ (c .if1 .left))) .0
-
-active-path-requires : tie.Need-active-path-requires
-active-path-requires c κs = (search needs, rw (c .next-in .ensures) (rest-next _ _ _ (rw (c .before .before .before .not-copied .ensures) at (sym (c .before .before .some-used .ensures) ∙ not-false _ (c .before .if1 .left))) .1))
-
 returns-2 : tie.Need-returns-2
 returns-2 c =
     rest-path _ _ _ _
@@ -27,7 +18,7 @@ rest-is-whole-spec =
     (tie.spec
     (λ c κs. search needs)
     (λ c κs. search needs)
-    returns
-    next-in-requires
-    active-path-requires
+    (λ c. rest-unused _ _ _ (rw (c .before .before .not-copied .ensures) at (sym (c .before .some-used .ensures) ∙ not-true _ (c .if1 .taken))))
+    (λ c κs. rest-next _ _ _ (rw (c .before .before .not-copied .ensures) at (sym (c .before .some-used .ensures) ∙ not-false _ (c .if1 .left))) .0)
+    (λ c κs. (search needs, rw (c .next-in .ensures) (rest-next _ _ _ (rw (c .before .before .before .not-copied .ensures) at (sym (c .before .before .some-used .ensures) ∙ not-false _ (c .before .if1 .left))) .1)))
     returns-2)

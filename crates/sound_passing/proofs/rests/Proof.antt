@@ -5,15 +5,6 @@ use Rattle.sound_passing.proofs.Groups.{first-below, rests-none, rests-
 use Rattle.sound_passing.proofs.rests.Statement.{statement}
 use Rattle.sound_passing.proofs.rests.Tie as tie
 
-returns : tie.Need-returns
-returns c = rests-none _ _ _ (sym (c .before .next-in .ensures) ∙ c .if1 .taken)
-
-nibble-requires : tie.Need-nibble-requires
-nibble-requires c κs = (search needs, (first-below _ _ (c .before .next-in .ensures) (c .if1 .left)))
-
-agree-on-state-requires : tie.Need-agree-on-state-requires
-agree-on-state-requires c κs = (search needs, (first-below _ _ (c .before .before .before .before .before .next-in .ensures) (c .before .before .before .before .if1 .left)))
-
 returns-2 : tie.Need-returns-2
 returns-2 c =
     rests-by _ _ _ _ _ _ _ _
@@ -29,10 +20,10 @@ rests-spec =
     tie.close
     (tie.spec
     (λ c κs. search needs)
-    returns
-    nibble-requires
+    (λ c. rests-none _ _ _ (sym (c .before .next-in .ensures) ∙ c .if1 .taken))
+    (λ c κs. (search needs, (first-below _ _ (c .before .next-in .ensures) (c .if1 .left))))
     (λ c κs. search needs)
     (λ c κs. search needs)
     (λ c κs. search needs)
-    agree-on-state-requires
+    (λ c κs. (search needs, (first-below _ _ (c .before .before .before .before .before .next-in .ensures) (c .before .before .before .before .if1 .left))))
     returns-2)

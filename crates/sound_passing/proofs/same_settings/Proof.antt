@@ -3,8 +3,5 @@ use Rattle.sound_passing.proofs.Choices.{settings-by}
 use Rattle.sound_passing.proofs.same_settings.Statement.{statement}
 use Rattle.sound_passing.proofs.same_settings.Tie as tie
 
-returns : tie.Need-returns
-returns c = settings-by _ _
-
 pub same-settings-spec : {M : Type 1} → statement M
-same-settings-spec = tie.close (tie.spec returns)
+same-settings-spec = tie.close (tie.spec (λ c. settings-by _ _))

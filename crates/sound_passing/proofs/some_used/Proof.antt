@@ -6,9 +6,6 @@ use Rattle.bits.specs.Sets.{laneCount, someIn}
 use Rattle.sound_passing.proofs.some_used.Statement.{statement}
 use Rattle.sound_passing.proofs.some_used.Tie as tie
 
-returns : tie.Need-returns
-unfolding someIn
-returns c = c .meets .ensures ∙ some-of laneCount _ _ (c .before .used-lanes .ensures)
-
 pub some-used-spec : {M : Type 1} → statement M
-some-used-spec = tie.close (tie.spec (λ c κs. search needs) (λ c κs. search needs) returns)
+unfolding someIn
+some-used-spec = tie.close (tie.spec (λ c κs. search needs) (λ c κs. search needs) (λ c. c .meets .ensures ∙ some-of laneCount _ _ (c .before .used-lanes .ensures)))

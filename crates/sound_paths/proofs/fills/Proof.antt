@@ -7,15 +7,8 @@ use Rattle.model.specs.View.{fills}
 use Rattle.sound_paths.proofs.fills.Statement.{statement}
 use Rattle.sound_paths.proofs.fills.Tie as tie
 
-returns : tie.Need-returns
-unfolding fills
-returns c = rw (c .enum-told .given .1)
-
-returns-2 : tie.Need-returns-2
-unfolding fills
-returns-2 c = rw (c .before .before .before .before .found .given .1, c .is-in .ensures, c .before .lanes-from .ensures) (and-both _ _ ∙ ap (both _) (and-both _ _))
-
 pub fills-spec : {M : Type 1} → statement M
+unfolding fills
 fills-spec =
     tie.close
     (tie.spec
@@ -26,5 +19,5 @@ fills-spec =
     (λ c κs. search needs)
     (λ c κs. search needs)
     (λ c. search needs)
-    returns
-    returns-2)
+    (λ c. rw (c .enum-told .given .1))
+    (λ c. rw (c .before .before .before .before .found .given .1, c .is-in .ensures, c .before .lanes-from .ensures) (and-both _ _ ∙ ap (both _) (and-both _ _))))

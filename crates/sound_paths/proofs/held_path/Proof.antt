@@ -8,9 +8,6 @@ use Rattle.sound_paths.proofs.Wholes.{path-by}
 use Rattle.sound_paths.proofs.held_path.Statement.{statement}
 use Rattle.sound_paths.proofs.held_path.Tie as tie
 
-is-whole-requires : tie.Need-is-whole-requires
-is-whole-requires c κs = (search needs, rw (c .before .before .app-sel .ensures) (app-lt _), rw (c .before .path-id .ensures) (id-lt _))
-
 returns : tie.Need-returns
 returns c = let h = c .before .before .before .before .held-at .ensures ∙ sym (held-of _ _ (c .before .before .before .before .before .before .pre .1)) in
     path-by _ _ _ _ _ _ _ _ _
@@ -20,4 +17,4 @@ returns c = let h = c .before .before .before .before .held-at .ensures ∙ sym 
     (c .is-whole .ensures)
 
 pub held-path-spec : {M : Type 1} → statement M
-held-path-spec = tie.close (tie.spec (λ c κs. search needs) (λ c κs. search needs) (λ c κs. search needs) (λ c κs. search needs) is-whole-requires returns)
+held-path-spec = tie.close (tie.spec (λ c κs. search needs) (λ c κs. search needs) (λ c κs. search needs) (λ c κs. search needs) (λ c κs. (search needs, rw (c .before .before .app-sel .ensures) (app-lt _), rw (c .before .path-id .ensures) (id-lt _))) returns)

@@ -5,8 +5,5 @@ use native.Mathlib.Omega.{arith}
 use Rattle.sound_paths.proofs.is_whole.Statement.{statement}
 use Rattle.sound_paths.proofs.is_whole.Tie as tie
 
-returns : tie.Need-returns
-returns c = rw (c .fills .ensures, c .before .look-up .ensures, application-in _ (c .before .before .before .args .app) (omega arith))
-
 pub is-whole-spec : {M : Type 1} → statement M
-is-whole-spec = tie.close (tie.spec (λ c κs. search needs) (λ c κs. search needs) returns)
+is-whole-spec = tie.close (tie.spec (λ c κs. search needs) (λ c κs. search needs) (λ c. rw (c .fills .ensures, c .before .look-up .ensures, application-in _ (c .before .before .before .args .app) (omega arith))))

@@ -22,12 +22,6 @@ Inv-loop w set lane app id all₀ other₀ all other = (other ≤ 8)
 abbrev μ-loop : tie.MeasureT-loop
 μ-loop w set lane app id all₀ other₀ all other = 8 - other
 
-loop-holds : tie.Need-loop-holds Inv-loop μ-loop
-loop-holds c = (search needs, all-begin _)
-
-loop-again : tie.Need-loop-again Inv-loop μ-loop
-loop-again c = (search needs, every-turn _ _ _ _ _ _ (c .before .before .before .before .before .loop .inv .1) (c .is-in .ensures) (rw (c .before .before .app-sel2 .ensures, c .before .path-id2 .ensures, c .before .before .before .held-at2 .ensures) (and-both _ _)))
-
 returns : tie.Need-returns Inv-loop μ-loop
 returns c = let e : c .before .loop .other ≡ 8 = omega arith in
     let h = c .before .before .before .before .held-at .ensures in
@@ -44,12 +38,12 @@ share-held-spec =
     (λ c κs. search needs)
     (λ c κs. search needs)
     (λ c κs. search needs)
-    loop-holds
+    (λ c. (search needs, all-begin _))
     (λ c κs. search needs)
     (λ c κs. search needs)
     (λ c κs. search needs)
     (λ c κs. search needs)
     (λ c. search needs)
     (λ c. search needs)
-    loop-again
+    (λ c. (search needs, every-turn _ _ _ _ _ _ (c .before .before .before .before .before .loop .inv .1) (c .is-in .ensures) (rw (c .before .before .app-sel2 .ensures, c .before .path-id2 .ensures, c .before .before .before .held-at2 .ensures) (and-both _ _))))
     returns)

@@ -4,9 +4,6 @@ use Rattle.model.specs.Refusals.{isFlat}
 use Rattle.start_image.proofs.is_flat.Statement.{statement}
 use Rattle.start_image.proofs.is_flat.Tie as tie
 
-returns : tie.Need-returns
-unfolding isFlat
-returns c = rw (c .get .ensures)
-
 pub is-flat-spec : {M : Type 1} → statement M
-is-flat-spec = tie.close (tie.spec (λ c κs. search needs) returns)
+unfolding isFlat
+is-flat-spec = tie.close (tie.spec (λ c κs. search needs) (λ c. rw (c .get .ensures)))

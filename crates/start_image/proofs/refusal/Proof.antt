@@ -5,12 +5,6 @@ use Rattle.start_image.proofs.Refusing.{start-length, start-flat, start
 use Rattle.start_image.proofs.refusal.Statement.{statement}
 use Rattle.start_image.proofs.refusal.Tie as tie
 
-returns : tie.Need-returns
-returns c = sym (start-length _ (c .if1 .taken))
-
-returns-2 : tie.Need-returns-2
-returns-2 c = sym (start-flat _ (c .before .before .if1 .left) (sym (c .before .is-flat .ensures) ∙ c .if2 .taken))
-
 returns-3 : tie.Need-returns-3
 returns-3 c =
     sym (start-turned _
@@ -27,4 +21,4 @@ returns-4 c =
 
 pub refusal-spec : {M : Type 1} → statement M
 refusal-spec =
-    tie.close (tie.spec returns (λ c κs. search needs) returns-2 (λ c κs. search needs) returns-3 returns-4)
+    tie.close (tie.spec (λ c. sym (start-length _ (c .if1 .taken))) (λ c κs. search needs) (λ c. sym (start-flat _ (c .before .before .if1 .left) (sym (c .before .is-flat .ensures) ∙ c .if2 .taken))) (λ c κs. search needs) returns-3 returns-4)

@@ -21,9 +21,6 @@ Inv-loop image₀ i₀ image i =
 abbrev μ-loop : tie.MeasureT-loop
 μ-loop image₀ i₀ image i = imageLength - i
 
-loop-holds : tie.Need-loop-holds Inv-loop μ-loop
-loop-holds c = (search needs, search needs, each-begin _ _ _)
-
 loop-again : tie.Need-loop-again Inv-loop μ-loop
 loop-again c =
     let i = c .before .before .before .loop .inv in
@@ -44,7 +41,7 @@ reset-spec =
     (tie.spec
     Inv-loop
     μ-loop
-    loop-holds
+    (λ c. (search needs, search needs, each-begin _ _ _))
     (λ c κs. search needs)
     (λ c κs. search needs)
     (λ c. search needs)

@@ -10,19 +10,12 @@ use Rattle.step_answers.proofs.Answered.{read-bad, read-short, read-done}
 use Rattle.step_host.proofs.read.Statement.{statement}
 use Rattle.step_host.proofs.read.Tie as tie
 
-returns : tie.Need-returns
-unfolding isDone
-returns c = refused-leaves _ _ _ _ BadAccess _ (read-bad _ _ _ _ (sym (c .before .before .bad-access .ensures) ∙ c .before .if1 .taken)) refl (c .reply .ensures)
-
 returns-2 : tie.Need-returns-2
 unfolding isDone
 returns-2 c =
     refused-leaves _ _ _ _ ShortBuffer _
     (read-short _ _ _ _ (sym (c .before .before .before .bad-access .ensures) ∙ c .before .before .if1 .left) (c .before .if2 .taken))
     refl (c .reply2 .ensures)
-
-read-requires : tie.Need-read-requires
-read-requires c κs = let g = good-access 128 _ _ (sym (c .before .before .before .before .bad-access .ensures) ∙ c .before .before .before .if1 .left) in search needs
 
 returns-3 : tie.Need-returns-3
 unfolding eventEffect readEffect
@@ -34,15 +27,16 @@ returns-3 c =
     (ap (λ t. t .working) r) (w .bytes) (ap (λ t. t .mask) r)
 
 pub read-spec : {M : Type 1} → statement M
+unfolding isDone
 read-spec =
     tie.close
     (tie.spec
     (λ c κs. search needs)
     (λ c κs. search needs)
-    returns
+    (λ c. refused-leaves _ _ _ _ BadAccess _ (read-bad _ _ _ _ (sym (c .before .before .bad-access .ensures) ∙ c .before .if1 .taken)) refl (c .reply .ensures))
     (λ c κs. search needs)
     returns-2
-    read-requires
+    (λ c κs. let g = good-access 128 _ _ (sym (c .before .before .before .before .bad-access .ensures) ∙ c .before .before .before .if1 .left) in search needs)
     (λ c κs. search needs)
     (λ c κs. search needs)
     (λ c. search needs)

@@ -12,10 +12,6 @@ use Rattle.step_answers.proofs.Answered.{write-bad, write-done}
 use Rattle.step_host.proofs.write.Statement.{statement}
 use Rattle.step_host.proofs.write.Tie as tie
 
-returns : tie.Need-returns
-unfolding isDone
-returns c = refused-leaves _ _ _ _ BadAccess _ (write-bad _ _ _ _ (sym (c .before .before .bad-access .ensures) ∙ c .before .if1 .taken)) refl (c .reply .ensures)
-
 array-share-prefix-bytes : tie.Need-array-share-prefix-bytes
 array-share-prefix-bytes c =
     let eight = c .before .before .before .before .good .1 .1 .1 .1 .0 .1 .0 .1 in
@@ -49,12 +45,13 @@ returns-2 c = let w = c .before .before .before .before .before .before .before 
     (ap (λ t. t .mask) (c .reply2 .ensures))
 
 pub write-spec : {M : Type 1} → statement M
+unfolding isDone
 write-spec =
     tie.close
     (tie.spec
     (λ c κs. search needs)
     (λ c κs. search needs)
-    returns
+    (λ c. refused-leaves _ _ _ _ BadAccess _ (write-bad _ _ _ _ (sym (c .before .before .bad-access .ensures) ∙ c .before .if1 .taken)) refl (c .reply .ensures))
     array-share-prefix-bytes
     slice-aggregate-write
     write-requires

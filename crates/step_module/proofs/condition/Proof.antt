@@ -18,9 +18,6 @@ returns c =
     (condition-nowhere _ _ _ _ (sym (c .before .before .is-condition-flag .ensures) ∙ not-true _ (c .before .if1 .taken)))
     refl (c .reply .ensures)
 
-condition-requires : tie.Need-condition-requires
-condition-requires c κs = (search needs, condition-upper _ (sym (c .before .before .is-condition-flag .ensures) ∙ not-false _ (c .before .if1 .left)))
-
 returns-2 : tie.Need-returns-2
 unfolding eventEffect
 returns-2 c =
@@ -34,7 +31,7 @@ condition-spec =
     (λ c κs. search needs)
     (λ c κs. search needs)
     returns
-    condition-requires
+    (λ c κs. (search needs, condition-upper _ (sym (c .before .before .is-condition-flag .ensures) ∙ not-false _ (c .before .if1 .left))))
     (λ c κs. search needs)
     (λ c κs. search needs)
     (λ c. search needs)

@@ -10,10 +10,6 @@ use Rattle.step_answers.proofs.Answered.{hardware-nowhere, hardware-busy, hardw
 use Rattle.step_module.proofs.hardware.Statement.{statement}
 use Rattle.step_module.proofs.hardware.Tie as tie
 
-returns : tie.Need-returns
-unfolding isDone
-returns c = refused-leaves _ _ _ _ NoSuchTarget _ (hardware-nowhere _ _ _ (c .before .if1 .taken)) refl (c .reply .ensures)
-
 returns-2 : tie.Need-returns-2
 unfolding isDone
 returns-2 c =
@@ -38,11 +34,12 @@ returns-4 c =
     image-leaves _ _ _ _ _ _ _ _ (hardware-done _ _ _ lane free used) refl (c .before .before .before .before .before .before .before .move-path .ensures) (c .before .before .before .settle .ensures) (c .reply4 .ensures)
 
 pub hardware-spec : {M : Type 1} → statement M
+unfolding isDone
 hardware-spec =
     tie.close
     (tie.spec
     (λ c κs. search needs)
-    returns
+    (λ c. refused-leaves _ _ _ _ NoSuchTarget _ (hardware-nowhere _ _ _ (c .before .if1 .taken)) refl (c .reply .ensures))
     (λ c κs. search needs)
     (λ c κs. search needs)
     (λ c. search needs)

@@ -9,10 +9,6 @@ use Rattle.step_answers.proofs.Answered.{sample-nowhere, sample-done}
 use Rattle.step_module.proofs.sample.Statement.{statement}
 use Rattle.step_module.proofs.sample.Tie as tie
 
-returns : tie.Need-returns
-unfolding isDone
-returns c = refused-leaves _ _ _ _ NoSuchTarget _ (sample-nowhere _ _ _ _ (c .before .if1 .taken)) refl (c .reply .ensures)
-
 returns-2 : tie.Need-returns-2
 unfolding eventEffect
 returns-2 c =
@@ -24,11 +20,12 @@ returns-2 c =
     (c .reply2 .ensures)
 
 pub sample-spec : {M : Type 1} → statement M
+unfolding isDone
 sample-spec =
     tie.close
     (tie.spec
     (λ c κs. search needs)
-    returns
+    (λ c. refused-leaves _ _ _ _ NoSuchTarget _ (sample-nowhere _ _ _ _ (c .before .if1 .taken)) refl (c .reply .ensures))
     (λ c κs. search needs)
     (λ c κs. search needs)
     (λ c κs. search needs)

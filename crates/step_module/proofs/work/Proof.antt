@@ -12,10 +12,6 @@ use Rattle.step_answers.proofs.Answered.{work-nowhere, work-idle, work-done}
 use Rattle.step_module.proofs.work.Statement.{statement}
 use Rattle.step_module.proofs.work.Tie as tie
 
-returns : tie.Need-returns
-unfolding isDone
-returns c = refused-leaves _ _ _ _ NoSuchTarget _ (work-nowhere _ _ _ (c .before .if1 .taken)) refl (c .reply .ensures)
-
 returns-2 : tie.Need-returns-2
 unfolding isDone
 returns-2 c =
@@ -33,11 +29,12 @@ returns-3 c =
     refl refl (w .image) (c .before .before .settle .ensures) (w .working) (rw (work-reads-nothing _ _)) (w .mask)
 
 pub work-spec : {M : Type 1} → statement M
+unfolding isDone
 work-spec =
     tie.close
     (tie.spec
     (λ c κs. search needs)
-    returns
+    (λ c. refused-leaves _ _ _ _ NoSuchTarget _ (work-nowhere _ _ _ (c .before .if1 .taken)) refl (c .reply .ensures))
     (λ c κs. search needs)
     (λ c κs. search needs)
     (λ c κs. search needs)

@@ -23,9 +23,6 @@ loop-again c =
     let same = ap (λ k. eqb k (c .before .before .before .before .before .args .state)) (c .before .nibble .ensures ∙ sym (state-at _ _ (omega arith))) in
     (search needs, mask-turn _ _ _ _ _ (l .inv .1) same (c .with-lane .ensures))
 
-returns : tie.Need-returns Inv-loop μ-loop
-returns c = let e : c .before .loop .lane ≡ laneCount = omega arith in rw e at (c .before .loop .inv .1)
-
 pub lanes-in-state-spec : {M : Type 1} → statement M
 lanes-in-state-spec =
     tie.close
@@ -38,4 +35,4 @@ lanes-in-state-spec =
     (λ c. search needs)
     (λ c. search needs)
     loop-again
-    returns)
+    (λ c. let e : c .before .loop .lane ≡ laneCount = omega arith in rw e at (c .before .loop .inv .1)))

@@ -27,9 +27,6 @@ loop-again c =
     let same = ap (λ k. eqb k (a .value)) (c .before .take-field .ensures ∙ ap (λ k. field k (a .shift) (a .width)) config) in
     (search needs, mask-turn _ _ _ _ _ (l .inv .1) same (c .with-lane .ensures))
 
-returns : tie.Need-returns Inv-loop μ-loop
-returns c = let e : c .before .loop .lane ≡ laneCount = omega arith in rw e at (c .before .loop .inv .1)
-
 pub lanes-with-spec : {M : Type 1} → statement M
 lanes-with-spec =
     tie.close
@@ -43,4 +40,4 @@ lanes-with-spec =
     (λ c. search needs)
     (λ c. search needs)
     loop-again
-    returns)
+    (λ c. let e : c .before .loop .lane ≡ laneCount = omega arith in rw e at (c .before .loop .inv .1)))

@@ -4,9 +4,6 @@ use Rattle.model.specs.View.{appSel}
 use Rattle.view_paths.proofs.lanes_with_app.Statement.{statement}
 use Rattle.view_paths.proofs.lanes_with_app.Tie as tie
 
-returns : tie.Need-returns
-unfolding appSel
-returns c = c .lanes-with .ensures
-
 pub lanes-with-app-spec : {M : Type 1} → statement M
-lanes-with-app-spec = tie.close (tie.spec (λ c κs. search needs) returns)
+unfolding appSel
+lanes-with-app-spec = tie.close (tie.spec (λ c κs. search needs) (λ c. c .lanes-with .ensures))

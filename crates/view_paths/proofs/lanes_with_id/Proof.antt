@@ -4,9 +4,6 @@ use Rattle.model.specs.View.{pathId}
 use Rattle.view_paths.proofs.lanes_with_id.Statement.{statement}
 use Rattle.view_paths.proofs.lanes_with_id.Tie as tie
 
-returns : tie.Need-returns
-unfolding pathId
-returns c = c .lanes-with .ensures
-
 pub lanes-with-id-spec : {M : Type 1} → statement M
-lanes-with-id-spec = tie.close (tie.spec (λ c κs. search needs) returns)
+unfolding pathId
+lanes-with-id-spec = tie.close (tie.spec (λ c κs. search needs) (λ c. c .lanes-with .ensures))

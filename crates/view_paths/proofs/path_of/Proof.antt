@@ -9,9 +9,6 @@ use Rattle.view_paths.proofs.Lanes.{path-none, path-used}
 use Rattle.view_paths.proofs.path_of.Statement.{statement}
 use Rattle.view_paths.proofs.path_of.Tie as tie
 
-returns : tie.Need-returns
-returns c = path-none _ _ (sym (in-set laneCount _ (c .before .before .used-lanes .ensures) _ (omega arith)) ∙ sym (c .before .is-in .ensures) ∙ not-true _ (c .if1 .taken))
-
 returns-2 : tie.Need-returns-2
 returns-2 c =
     let u = c .before .before .before .before .used-lanes .ensures in
@@ -27,7 +24,7 @@ path-of-spec =
     (tie.spec
     (λ c κs. search needs)
     (λ c κs. search needs)
-    returns
+    (λ c. path-none _ _ (sym (in-set laneCount _ (c .before .before .used-lanes .ensures) _ (omega arith)) ∙ sym (c .before .is-in .ensures) ∙ not-true _ (c .if1 .taken)))
     (λ c κs. search needs)
     (λ c κs. search needs)
     returns-2)

@@ -4,9 +4,6 @@ use borrow.Author.Needs.{needs}
 use Rattle.view_paths.proofs.used_at.Statement.{statement}
 use Rattle.view_paths.proofs.used_at.Tie as tie
 
-returns : tie.Need-returns
-unfolding isUsed
-returns c = rw (c .app-at .ensures)
-
 pub used-at-spec : {M : Type 1} → statement M
-used-at-spec = tie.close (tie.spec (λ c κs. search needs) returns)
+unfolding isUsed
+used-at-spec = tie.close (tie.spec (λ c κs. search needs) (λ c. rw (c .app-at .ensures)))

@@ -6,9 +6,6 @@ use Rattle.model.specs.View.{isUsed}
 use Rattle.view_paths.proofs.used_lanes.Statement.{statement}
 use Rattle.view_paths.proofs.used_lanes.Tie as tie
 
-returns : tie.Need-returns
-unfolding isUsed
-returns c = rest-is laneCount _ (c .lanes-with-app .ensures)
-
 pub used-lanes-spec : {M : Type 1} → statement M
-used-lanes-spec = tie.close (tie.spec (λ c κs. search needs) returns)
+unfolding isUsed
+used-lanes-spec = tie.close (tie.spec (λ c κs. search needs) (λ c. rest-is laneCount _ (c .lanes-with-app .ensures)))

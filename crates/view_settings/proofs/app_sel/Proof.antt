@@ -4,9 +4,6 @@ use Rattle.model.specs.View.{appSel}
 use Rattle.view_settings.proofs.app_sel.Statement.{statement}
 use Rattle.view_settings.proofs.app_sel.Tie as tie
 
-returns : tie.Need-returns
-unfolding appSel
-returns c = c .take-field .ensures
-
 pub app-sel-spec : {M : Type 1} → statement M
-app-sel-spec = tie.close (tie.spec (λ c κs. search needs) returns)
+unfolding appSel
+app-sel-spec = tie.close (tie.spec (λ c κs. search needs) (λ c. c .take-field .ensures))

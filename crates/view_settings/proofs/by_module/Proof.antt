@@ -4,9 +4,6 @@ use mathlib.Core.Path.{refl}
 use Rattle.model.specs.Work.{byModule}
 use Rattle.view_settings.proofs.by_module.Tie as tie
 
-returns : tie.Need-returns
-unfolding byModule
-returns c = refl
-
 pub by-module-spec : {M : Type 1} → statement M
-by-module-spec = tie.close (tie.spec returns)
+unfolding byModule
+by-module-spec = tie.close (tie.spec (λ c. refl))

@@ -4,9 +4,6 @@ use Rattle.model.specs.View.{explicit}
 use Rattle.view_settings.proofs.explicit.Statement.{statement}
 use Rattle.view_settings.proofs.explicit.Tie as tie
 
-returns : tie.Need-returns
-unfolding explicit
-returns c = c .take-field .ensures
-
 pub explicit-spec : {M : Type 1} → statement M
-explicit-spec = tie.close (tie.spec (λ c κs. search needs) returns)
+unfolding explicit
+explicit-spec = tie.close (tie.spec (λ c κs. search needs) (λ c. c .take-field .ensures))

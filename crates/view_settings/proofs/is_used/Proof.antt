@@ -4,9 +4,6 @@ use Rattle.model.specs.View.{isUsed}
 use Rattle.view_settings.proofs.is_used.Statement.{statement}
 use Rattle.view_settings.proofs.is_used.Tie as tie
 
-returns : tie.Need-returns
-unfolding isUsed
-returns c = rw (← (c .app-sel .ensures))
-
 pub is-used-spec : {M : Type 1} → statement M
-is-used-spec = tie.close (tie.spec (λ c κs. search needs) returns)
+unfolding isUsed
+is-used-spec = tie.close (tie.spec (λ c κs. search needs) (λ c. rw (← (c .app-sel .ensures))))

@@ -4,9 +4,6 @@ use Rattle.model.specs.View.{pathId}
 use Rattle.view_settings.proofs.path_id.Statement.{statement}
 use Rattle.view_settings.proofs.path_id.Tie as tie
 
-returns : tie.Need-returns
-unfolding pathId
-returns c = c .take-field .ensures
-
 pub path-id-spec : {M : Type 1} → statement M
-path-id-spec = tie.close (tie.spec (λ c κs. search needs) returns)
+unfolding pathId
+path-id-spec = tie.close (tie.spec (λ c κs. search needs) (λ c. c .take-field .ensures))

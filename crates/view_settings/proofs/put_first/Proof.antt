@@ -8,11 +8,8 @@ use Rattle.view_settings.specs.Parts.{withPart}
 use Rattle.view_settings.proofs.put_first.Statement.{statement}
 use Rattle.view_settings.proofs.put_first.Tie as tie
 
-returns : tie.Need-returns
-unfolding withPart each onlyIf settingAt settingValues
-returns c = cc
-
 pub put-first-spec : {M : Type 1} → statement M
+unfolding withPart each onlyIf settingAt settingValues
 put-first-spec =
     tie.close
     (tie.spec
@@ -25,4 +22,4 @@ put-first-spec =
     (λ c. search needs)
     (λ c κs. search needs)
     (λ c. search needs)
-    returns)
+    (λ c. cc))

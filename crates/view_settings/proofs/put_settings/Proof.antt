@@ -6,8 +6,5 @@ use Rattle.view_settings.proofs.Parts.{whole}
 use Rattle.view_settings.proofs.put_settings.Statement.{statement}
 use Rattle.view_settings.proofs.put_settings.Tie as tie
 
-returns : tie.Need-returns
-returns c = c .before .before .put-rest .ensures ∙ ap (withPart 4 4 _ _) (c .before .before .before .before .before .before .put-first .ensures) ∙ whole _ _ _
-
 pub put-settings-spec : {M : Type 1} → statement M
-put-settings-spec = tie.close (tie.spec (λ c κs. search needs) (λ c κs. search needs) (λ c. search needs) returns)
+put-settings-spec = tie.close (tie.spec (λ c κs. search needs) (λ c κs. search needs) (λ c. search needs) (λ c. c .before .before .put-rest .ensures ∙ ap (withPart 4 4 _ _) (c .before .before .before .before .before .before .put-first .ensures) ∙ whole _ _ _))

@@ -19,11 +19,8 @@ returns-2 c =
     let own = ne-eqb _ _ (c .before .if2 .left) in
     rw (← used, c .before .before .before .if1 .taken, pick, ← (c .before .before .explicit .ensures), own, pick) (c .by-module .ensures)
 
-returns-3 : tie.Need-returns-3
-unfolding writtenSettings pick
-returns-3 c = rw (← (c .before .is-used .ensures), c .if1 .left, pick)
-
 pub written-spec : {M : Type 1} → statement M
+unfolding writtenSettings pick
 written-spec =
     tie.close
-    (tie.spec (λ c κs. search needs) (λ c κs. search needs) (λ c κs. search needs) returns returns-2 returns-3)
+    (tie.spec (λ c κs. search needs) (λ c κs. search needs) (λ c κs. search needs) returns returns-2 (λ c. rw (← (c .before .is-used .ensures), c .if1 .left, pick)))

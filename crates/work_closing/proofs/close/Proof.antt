@@ -5,9 +5,6 @@ use Rattle.model.specs.Work.{closedState}
 use Rattle.work_closing.proofs.close.Statement.{statement}
 use Rattle.work_closing.proofs.close.Tie as tie
 
-returns : tie.Need-returns
-unfolding closedState withStatus
-returns c = record { image = c .before .before .before .put-each .ensures; working = c .freed .ensures }
-
 pub close-spec : {M : Type 1} → statement M
-close-spec = tie.close (tie.spec (λ c κs. search needs) (λ c κs. search needs) (λ c. search needs) returns)
+unfolding closedState withStatus
+close-spec = tie.close (tie.spec (λ c κs. search needs) (λ c κs. search needs) (λ c. search needs) (λ c. record { image = c .before .before .before .put-each .ensures; working = c .freed .ensures }))

@@ -8,9 +8,6 @@ use Rattle.work_closing.proofs.Groups.{none-commissioned, state-decides
 use Rattle.work_closing.proofs.immediate_mask.Statement.{statement}
 use Rattle.work_closing.proofs.immediate_mask.Tie as tie
 
-returns : tie.Need-returns
-returns c = sym (none-commissioned _ _ (omega arith) (rw (c .before .next-in .ensures) at (c .if1 .taken)))
-
 returns-2 : tie.Need-returns-2
 unfolding pick
 returns-2 c =
@@ -30,7 +27,7 @@ immediate-mask-spec =
     tie.close
     (tie.spec
     (λ c κs. search needs)
-    returns
+    (λ c. sym (none-commissioned _ _ (omega arith) (rw (c .before .next-in .ensures) at (c .if1 .taken))))
     (λ c κs. search needs)
     (λ c κs. search needs)
     (λ c κs. search needs)

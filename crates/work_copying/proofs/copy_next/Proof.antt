@@ -4,9 +4,6 @@ use Rattle.work_copying.proofs.Copies.{copied-by}
 use Rattle.work_copying.proofs.copy_next.Statement.{statement}
 use Rattle.work_copying.proofs.copy_next.Tie as tie
 
-returns : tie.Need-returns
-returns c = copied-by _ _ _ _ (c .before .before .before .before .copy-lane .ensures) (c .before .next-in .ensures) (c .advanced .ensures)
-
 pub copy-next-spec : {M : Type 1} → statement M
 copy-next-spec =
     tie.close
@@ -16,4 +13,4 @@ copy-next-spec =
     (λ c κs. search needs)
     (λ c κs. search needs)
     (λ c. search needs)
-    returns)
+    (λ c. copied-by _ _ _ _ (c .before .before .before .before .copy-lane .ensures) (c .before .next-in .ensures) (c .advanced .ensures)))
