@@ -7,7 +7,7 @@ ghost use Rattle.model.specs.Pages.{indexOf};
 ghost use Rattle.model.specs.Access.{clearedImage, halfEnd};
 ghost use Rattle.access_reads.specs.Left.{ReadOut};
 
-// Those of n bytes from a place on that a read clears, cleared.
+// Those of n bytes from an index on that a read clears, cleared.
 fn clear(image: &mut [u8], i: usize, n: usize)
     requires { ⌜ (length (now image) ≡ imageLength) × (i + n ≤ imageLength) ⌝ }
     ensures { λ _. ⌜ now (image .exit) ≡ clearedImage (now (image .entry)) i n ⌝ }
@@ -19,7 +19,7 @@ fn clear(image: &mut [u8], i: usize, n: usize)
     }
 }
 
-// The n bytes at an offset of the half of memory that starts at a place: the window is gone before any is cleared.
+// The n bytes at an offset of the half of memory that starts at an index: the window is gone before any is cleared.
 fn read_half(image: &mut [u8], start: usize, offset: usize, n: usize, buffer: &mut [u8])
     requires { ⌜ (length (now image) ≡ imageLength) × (start + offset + n ≤ imageLength) × (n ≤ length (now buffer)) ⌝ }
     ensures { λ _. ⌜ ReadOut (now (image .entry)) (start + offset) n (now (buffer .entry)) (now (image .exit)) (now (buffer .exit)) ⌝ }

@@ -19,7 +19,7 @@ fn store_on_page(page: &mut [u8], offset: usize, v: u8)
     page[offset] = v;
 }
 
-// A byte of the 128 that start at a place of the image: stored if it is writable.
+// A byte of the 128 that start at an index of the image: stored if it is writable.
 fn store(image: &mut [u8], start: usize, offset: usize, v: u8)
     requires { ⌜ (length (now image) ≡ imageLength) × (start + 128 ≤ imageLength) × (offset < 128) ⌝ }
     ensures { λ _. ⌜ now (image .exit) ≡ pick (writable (start + offset)) (set (now (image .entry)) (start + offset) v) (now (image .entry)) ⌝ }
@@ -30,7 +30,7 @@ fn store(image: &mut [u8], start: usize, offset: usize, v: u8)
     }
 }
 
-// A byte put at one of the 128 places from a start on, which is no trigger's.
+// A byte put at one of the 128 bytes from a start on, which is no trigger's.
 fn put_byte(image: &mut [u8], start: usize, offset: usize, v: u8)
     requires { ⌜ (length (now image) ≡ imageLength) × (start + 128 ≤ imageLength) × (offset < 128) ⌝ }
     ensures { λ _. ⌜ now (image .exit) ≡ bytePut (start + offset) v (now (image .entry)) ⌝ }
@@ -42,7 +42,7 @@ fn put_byte(image: &mut [u8], start: usize, offset: usize, v: u8)
     }
 }
 
-// A byte written to one of the 128 places from a start on.
+// A byte written to one of the 128 bytes from a start on.
 fn write_at(image: &mut [u8], w: Working, start: usize, offset: usize, v: u8) -> Working
     requires { ⌜ (length (now image) ≡ imageLength) × (start + 128 ≤ imageLength) × (offset < 128) ⌝ }
     ensures { λ r. ⌜ IsState (storedState (start + offset) v (stateWith (now (image .entry)) w)) (now (image .exit)) r ⌝ }
@@ -79,7 +79,7 @@ fn write_each(image: &mut [u8], w: Working, address: u8, bytes: &[u8]) -> Workin
     next
 }
 
-// Whether one of n places from i on is a trigger's.
+// Whether one of n bytes from i on is a trigger's.
 fn meets_triggers(i: usize, n: usize) -> bool
     requires { ⌜ i + n < 2 ^ 64 ⌝ }
     ensures { λ r. ⌜ r ≡ meetsTriggers i n ⌝ }

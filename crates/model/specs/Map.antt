@@ -127,8 +127,11 @@ abbrev pub applyImmediate : Index
 applyImmediate = on page10 144
 
 -- 145 on: Staged Control Set 0 (002 tables 8-71 to 8-74)
+abbrev pub stagedAddress : Address
+stagedAddress = 145
+
 abbrev pub stagedSet0 : Index
-stagedSet0 = on page10 145
+stagedSet0 = on page10 stagedAddress
 
 -- 213 on: the masks, one for each flag byte, 79 above it (01; 002 table 8-81)
 abbrev pub flagMasks : Index
@@ -181,9 +184,9 @@ statusBytes = on page11 202
 abbrev pub statusAt : Lane → Place
 statusAt l = laneField statusBytes 4 l
 
--- 206 on: the active settings, laid out as a staged set 61 addresses below, on 10h (01 "Work step"; 002 tables 8-93 to 8-95)
+-- 206 on: the active settings, laid out as the staged set, 61 addresses above it (01 "Work step"; 002 tables 8-93 to 8-95)
 abbrev pub activeSet : Index
-activeSet = on page11 (145 + 61)
+activeSet = on page11 (stagedAddress + 61)
 
 -- 235: DPInitPending, a bit a lane (002 table 8-96)
 abbrev pub pendingByte : Index

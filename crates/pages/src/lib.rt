@@ -12,7 +12,7 @@ const BANK_SELECT: usize = 126;
 pub const PAGE_SELECT: usize = 127;
 
 // Where a page starts in the image: 10h and 11h only in bank 0.
-fn page_place(bank: u8, page: u8) -> PageStart
+fn page_start(bank: u8, page: u8) -> PageStart
     ensures { λ r. ⌜ r ≡ pageStart bank page ⌝ }
 {
     if page == 0x00 {
@@ -38,7 +38,7 @@ fn selected_start(image: &[u8]) -> usize
     requires { ⌜ length (now image) ≡ imageLength ⌝ }
     ensures { λ r. ⌜ r ≡ selectedStart (now (image .entry)) ⌝ }
 {
-    match page_place(image[BANK_SELECT], image[PAGE_SELECT]) {
+    match page_start(image[BANK_SELECT], image[PAGE_SELECT]) {
         PageStart::Unsupported => map::PAGE_00,
         PageStart::At(start) => start,
     }
@@ -60,7 +60,7 @@ pub fn select_page(image: &mut [u8], page: u8)
     requires { ⌜ length (now image) ≡ imageLength ⌝ }
     ensures { λ _. ⌜ now (image .exit) ≡ selectedImage page (now (image .entry)) ⌝ }
 {
-    match page_place(image[BANK_SELECT], page) {
+    match page_start(image[BANK_SELECT], page) {
         PageStart::Unsupported => {
             image[BANK_SELECT] = 0;
             image[PAGE_SELECT] = 0;

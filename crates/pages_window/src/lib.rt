@@ -1,4 +1,4 @@
-// A window on a half of memory: it holds the lent image and the place where the half starts, and serves reads. Its read is thin: `take_in` does the work.
+// A window on a half of memory: it holds the lent image and where the half starts, and serves reads. Its read is thin: `take_in` does the work.
 ghost use mathlib.Core.Path.{_≡_};
 ghost use Prim.Native.Nat.{_+_, _≤_, _<_};
 ghost use lib.ListN.{length};
