@@ -13,7 +13,7 @@ use Rattle.model.specs.File.{fileCheck}
 use Rattle.model.specs.Text.{ascii, newline, digitText, decimalUpTo, decimal, line, badLine}
 use Rattle.model.specs.Night.{linesFrom, nightOf, printedTextBy, printedText}
 use Rattle.model.specs.declared.answer.Answer.{Answer}
-use Rattle.model.specs.declared.answer.Answer.the-variants.{Done, WrongLength, FlatMemory, Unsound, BadAccess, ShortBuffer, NothingToDo, Busy, NoSuchTarget, Malformed, BackToFront}
+use Rattle.model.specs.declared.answer.Answer.the-variants.{Done, WrongLength, FlatMemory, Unsound, BadAccess, ShortBuffer, NothingOnLane, Busy, NoSuchTarget, Malformed, BackToFront}
 use Rattle.model.specs.declared.file.FileCheck.{FileCheck}
 use Rattle.model.specs.declared.file.FileCheck.the-variants.{Refused, Good}
 use Rattle.laws.specs.Files.{Fault}
@@ -31,7 +31,7 @@ shownNumber text = pick (eqb (getD text 5 0) newline) (byDigit (getD text 4 0)) 
         (pick (eqb d 0x33) Unsound
         (pick (eqb d 0x34) BadAccess
         (pick (eqb d 0x35) ShortBuffer
-        (pick (eqb d 0x36) NothingToDo
+        (pick (eqb d 0x36) NothingOnLane
         (pick (eqb d 0x37) Busy
         (pick (eqb d 0x38) NoSuchTarget Malformed))))))))
 
@@ -43,7 +43,7 @@ shown-back FlatMemory = refl
 shown-back Unsound = refl
 shown-back BadAccess = refl
 shown-back ShortBuffer = refl
-shown-back NothingToDo = refl
+shown-back NothingOnLane = refl
 shown-back Busy = refl
 shown-back NoSuchTarget = refl
 shown-back Malformed = refl

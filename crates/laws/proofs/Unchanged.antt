@@ -19,7 +19,7 @@ use Rattle.model.specs.Refusals.{firstOf, startRefusals, entryRefusals, eventRe
 use Rattle.model.specs.Step.{step, run, readEffect, eventEffect, doneStep, refusedStep, answeredStep}
 use Rattle.model.specs.Outcome.{startOutcomeBy, startOutcome, stepOutcome, callOutcomeBy, callOutcome, listOutcomeBy, listOutcome, listRoom, numbersOf, unchangedOutcome, laidOver}
 use Rattle.model.specs.declared.answer.Answer.{Answer}
-use Rattle.model.specs.declared.answer.Answer.the-variants.{Done, WrongLength, FlatMemory, Unsound, BadAccess, ShortBuffer, NothingToDo, Busy, NoSuchTarget, Malformed, BackToFront}
+use Rattle.model.specs.declared.answer.Answer.the-variants.{Done, WrongLength, FlatMemory, Unsound, BadAccess, ShortBuffer, NothingOnLane, Busy, NoSuchTarget, Malformed, BackToFront}
 use Rattle.model.specs.declared.event.Call.the-variants.{Read}
 use Rattle.model.specs.declared.event.Event.{Event}
 use Rattle.laws.specs.Asked.{Asked, start, call, list, outcomeOf, givenState, givenBuffer, holds, bufferTurn, shortBuffer, shortRead}
@@ -34,7 +34,7 @@ done-is FlatMemory e = absurd (clash e refl)
 done-is Unsound e = absurd (clash e refl)
 done-is BadAccess e = absurd (clash e refl)
 done-is ShortBuffer e = absurd (clash e refl)
-done-is NothingToDo e = absurd (clash e refl)
+done-is NothingOnLane e = absurd (clash e refl)
 done-is Busy e = absurd (clash e refl)
 done-is NoSuchTarget e = absurd (clash e refl)
 done-is Malformed e = absurd (clash e refl)

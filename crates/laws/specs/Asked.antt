@@ -14,7 +14,7 @@ use Rattle.model.specs.Sound.{isSound}
 use Rattle.model.specs.Refusals.{isFlat, isBackToFront, wrongLength, noSuchLane, isBusy, isUnused}
 use Rattle.model.specs.Outcome.{Outcome, startOutcome, callOutcome, listOutcome}
 use Rattle.model.specs.declared.answer.Answer.{Answer}
-use Rattle.model.specs.declared.answer.Answer.the-variants.{Done, WrongLength, FlatMemory, Unsound, BadAccess, ShortBuffer, NothingToDo, Busy, NoSuchTarget, Malformed, BackToFront}
+use Rattle.model.specs.declared.answer.Answer.the-variants.{Done, WrongLength, FlatMemory, Unsound, BadAccess, ShortBuffer, NothingOnLane, Busy, NoSuchTarget, Malformed, BackToFront}
 use Rattle.model.specs.declared.event.Call.{Call}
 use Rattle.model.specs.declared.event.Call.the-variants.{Write, Read, Work, Hardware, Condition, Sample}
 use Rattle.model.specs.declared.event.Event.{Event}
@@ -124,13 +124,13 @@ holds q BadAccess = ofEvent (λ s buffer c. badAccess c) q
 holds q NoSuchTarget = ofEvent (λ s buffer c. badPlace c) q
 holds q ShortBuffer = shortBuffer q
 holds q Busy = ofEvent (λ s buffer c. busyCall s c) q
-holds q NothingToDo = ofEvent (λ s buffer c. idleCall s c) q
+holds q NothingOnLane = ofEvent (λ s buffer c. idleCall s c) q
 holds q Malformed = false
 holds q BackToFront = turnedLimits q
 
 -- the order in which they are checked
 abbrev pub order : List Answer
-order = WrongLength ∷ FlatMemory ∷ BackToFront ∷ Unsound ∷ BadAccess ∷ NoSuchTarget ∷ ShortBuffer ∷ Busy ∷ NothingToDo ∷ []
+order = WrongLength ∷ FlatMemory ∷ BackToFront ∷ Unsound ∷ BadAccess ∷ NoSuchTarget ∷ ShortBuffer ∷ Busy ∷ NothingOnLane ∷ []
 
 -- where in it a buffer is judged
 abbrev pub bufferTurn : ℕ

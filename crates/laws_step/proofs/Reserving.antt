@@ -24,7 +24,7 @@ use Rattle.model.specs.State.{State}
 use Rattle.model.specs.Work.{early}
 use Rattle.model.specs.Refusals.{refuse, noSuchLane, eventRefusals}
 use Rattle.model.specs.Step.{event, step}
-use Rattle.model.specs.declared.answer.Answer.the-variants.{Done, NoSuchTarget, NothingToDo}
+use Rattle.model.specs.declared.answer.Answer.the-variants.{Done, NoSuchTarget, NothingOnLane}
 use Rattle.model.specs.declared.event.Call.{Call}
 use Rattle.model.specs.declared.event.Call.the-variants.{Write, Read, Work, Hardware, Condition, Sample}
 use Rattle.model.specs.declared.event.Event.{Event}
@@ -156,8 +156,8 @@ module _ (room : ℕ) (s : State) (bytes : List ℕ) where
   unfolding eventRefusals noSuchLane isDone
   work-on l d =
       let idle = not (isInProgress (stageAt (s .working) l)) in
-      let r = not-refused NoSuchTarget (not (ltb l 8)) (refuse NothingToDo idle ∷ []) refl (none-refused room s (event (Work l) bytes) d) in
-      (ltb-true l 8 (not-false _ (r .0)), not-false _ (not-refused NothingToDo _ [] refl (r .1) .0))
+      let r = not-refused NoSuchTarget (not (ltb l 8)) (refuse NothingOnLane idle ∷ []) refl (none-refused room s (event (Work l) bytes) d) in
+      (ltb-true l 8 (not-false _ (r .0)), not-false _ (not-refused NothingOnLane _ [] refl (r .1) .0))
 
   call-kept : (c : Call) → stepOn room s c bytes .answer ≡ Done → Kept (s .image) (stepOn room s c bytes .state .image)
   call-kept (Write address count) d = kept-by _ _ _ (free-written _ _ _ _) (write-changes room s bytes address count d)

@@ -3,7 +3,7 @@ use mathlib.Core.Bool.{Bool}
 use lib.Dec.{eqb}
 use Rattle.model.specs.Numbers.{AnswerNumber}
 use Rattle.model.specs.declared.answer.Answer.{Answer}
-use Rattle.model.specs.declared.answer.Answer.the-variants.{Done, WrongLength, FlatMemory, Unsound, BadAccess, ShortBuffer, NothingToDo, Busy, NoSuchTarget, Malformed, BackToFront}
+use Rattle.model.specs.declared.answer.Answer.the-variants.{Done, WrongLength, FlatMemory, Unsound, BadAccess, ShortBuffer, NothingOnLane, Busy, NoSuchTarget, Malformed, BackToFront}
 
 abbrev pub number : Answer → AnswerNumber
 number Done = 0
@@ -12,7 +12,7 @@ number FlatMemory = 2
 number Unsound = 3
 number BadAccess = 4
 number ShortBuffer = 5
-number NothingToDo = 6
+number NothingOnLane = 6
 number Busy = 7
 number NoSuchTarget = 8
 number Malformed = 9

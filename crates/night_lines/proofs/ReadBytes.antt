@@ -24,7 +24,7 @@ use Rattle.model.specs.Outcome.{laidOver, listRoom}
 use Rattle.model.specs.Text.{line}
 use Rattle.model.specs.Records.{stageAt}
 use Rattle.model.specs.declared.answer.Answer.{Answer}
-use Rattle.model.specs.declared.answer.Answer.the-variants.{Done, WrongLength, FlatMemory, Unsound, BadAccess, ShortBuffer, NothingToDo, Busy, NoSuchTarget, Malformed, BackToFront}
+use Rattle.model.specs.declared.answer.Answer.the-variants.{Done, WrongLength, FlatMemory, Unsound, BadAccess, ShortBuffer, NothingOnLane, Busy, NoSuchTarget, Malformed, BackToFront}
 use Rattle.model.specs.declared.event.Call.{Call}
 use Rattle.model.specs.declared.event.Call.the-variants.{Write, Read, Work, Hardware, Condition, Sample}
 use Rattle.model.specs.declared.event.Event.{Event}
@@ -136,7 +136,7 @@ number-lt FlatMemory = omega arith
 number-lt Unsound = omega arith
 number-lt BadAccess = omega arith
 number-lt ShortBuffer = omega arith
-number-lt NothingToDo = omega arith
+number-lt NothingOnLane = omega arith
 number-lt Busy = omega arith
 number-lt NoSuchTarget = omega arith
 number-lt Malformed = omega arith

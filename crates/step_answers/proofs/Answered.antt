@@ -15,7 +15,7 @@ use Rattle.model.specs.State.{State, stateWith}
 use Rattle.model.specs.Flags.{isConditionFlag}
 use Rattle.model.specs.Access.{isBadAccess, writeLimit, readLimit}
 use Rattle.model.specs.Refusals.{firstOf, noSuchLane, isBusy, isUnused, eventRefusals}
-use Rattle.model.specs.declared.answer.Answer.the-variants.{Done, BadAccess, ShortBuffer, NothingToDo, Busy, NoSuchTarget}
+use Rattle.model.specs.declared.answer.Answer.the-variants.{Done, BadAccess, ShortBuffer, NothingOnLane, Busy, NoSuchTarget}
 use Rattle.model.specs.declared.event.Call.the-variants.{Write, Read, Work, Hardware, Condition, Sample}
 use Rattle.model.specs.declared.lane.Stage.{Stage}
 use Rattle.model.specs.declared.lane.Working.{Working}
@@ -45,7 +45,7 @@ module _ (room : ℕ) (s : State) (l : ℕ) where
   work-nowhere h = first-here _ _ _ (no-lane l h)
 
   module _ (h : l < 8) where
-    pub work-idle : isInProgress (stageAt (s .working) l) ≡ false → firstOf (eventRefusals room s (Work l)) ≡ NothingToDo
+    pub work-idle : isInProgress (stageAt (s .working) l) ≡ false → firstOf (eventRefusals room s (Work l)) ≡ NothingOnLane
     unfolding eventRefusals
     work-idle e = first-next _ _ _ (lane-there l h) ∙ first-here _ _ _ (ap not e)
 
@@ -64,7 +64,7 @@ module _ (room : ℕ) (s : State) (l : ℕ) where
     hardware-busy e = first-next _ _ _ (lane-there l h) ∙ first-here _ _ _ e
 
     pub hardware-unused : isBusy s l ≡ false → isUsed (of (settingsOf activeSet (s .image)) l) ≡ false
-        → firstOf (eventRefusals room s (Hardware l)) ≡ NothingToDo
+        → firstOf (eventRefusals room s (Hardware l)) ≡ NothingOnLane
     unfolding eventRefusals isUnused
     hardware-unused e u = first-next _ _ _ (lane-there l h) ∙ first-next _ _ _ e ∙ first-here _ _ _ (ap not u)
 

@@ -27,7 +27,7 @@ pub fn work(image: &mut [u8], w: Working, lane: u8) -> Returned
         return contracts::reply(Answer::NoSuchTarget, w);
     }
     if !records::is_in_progress(records::stage_at(w, lane)) {
-        return contracts::reply(Answer::NothingToDo, w);
+        return contracts::reply(Answer::NothingOnLane, w);
     }
     let worked = work::work(image, w, lane);
     let working = worked.working;
@@ -61,7 +61,7 @@ pub fn hardware(image: &mut [u8], w: Working, lane: u8) -> Returned
         return contracts::reply(Answer::Busy, w);
     }
     if !view_paths::used_at(image, map::ACTIVE_SET, lane) {
-        return contracts::reply(Answer::NothingToDo, w);
+        return contracts::reply(Answer::NothingOnLane, w);
     }
     hardware_moves::move_path(image, lane);
     flags_interrupt::settle(image);

@@ -4,7 +4,7 @@ use mathlib.Core.Path.{refl, sym, _∙_}
 use borrow.Author.Tests.{not-true, not-false}
 use Rattle.model.specs.Answers.{isDone}
 use Rattle.model.specs.Step.{eventEffect}
-use Rattle.model.specs.declared.answer.Answer.the-variants.{NoSuchTarget, Busy, NothingToDo}
+use Rattle.model.specs.declared.answer.Answer.the-variants.{NoSuchTarget, Busy, NothingOnLane}
 use Rattle.step_answers.proofs.Outcomes.{refused-leaves, image-leaves}
 use Rattle.step_answers.proofs.Answered.{hardware-nowhere, hardware-busy, hardware-unused, hardware-done}
 use Rattle.step_module.proofs.hardware.Statement.{statement}
@@ -23,7 +23,7 @@ returns-3 c =
     let lane = c .before .before .before .before .before .before .before .if1 .left in
     let free = sym (c .before .before .before .before .before .is-busy .ensures) ∙ c .before .before .before .before .if2 .left in
     let unused = sym (c .before .before .used-at .ensures) ∙ not-true _ (c .before .if3 .taken) in
-    refused-leaves _ _ _ _ NothingToDo _ (hardware-unused _ _ _ lane free unused) refl (c .reply3 .ensures)
+    refused-leaves _ _ _ _ NothingOnLane _ (hardware-unused _ _ _ lane free unused) refl (c .reply3 .ensures)
 
 returns-4 : tie.Need-returns-4
 unfolding eventEffect

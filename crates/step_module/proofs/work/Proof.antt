@@ -6,7 +6,7 @@ use Rattle.model.specs.Answers.{isDone}
 use Rattle.model.specs.Records.{isInProgress}
 use Rattle.model.specs.Step.{eventEffect}
 use Rattle.model.specs.Outcome.{laidOver}
-use Rattle.model.specs.declared.answer.Answer.the-variants.{NoSuchTarget, NothingToDo}
+use Rattle.model.specs.declared.answer.Answer.the-variants.{NoSuchTarget, NothingOnLane}
 use Rattle.step_answers.proofs.Outcomes.{refused-leaves, done-leaves, work-reads-nothing}
 use Rattle.step_answers.proofs.Answered.{work-nowhere, work-idle, work-done}
 use Rattle.step_module.proofs.work.Statement.{statement}
@@ -15,7 +15,7 @@ use Rattle.step_module.proofs.work.Tie as tie
 returns-2 : tie.Need-returns-2
 unfolding isDone
 returns-2 c =
-    refused-leaves _ _ _ _ NothingToDo _
+    refused-leaves _ _ _ _ NothingOnLane _
     (work-idle _ _ _ (c .before .before .before .before .if1 .left) (sym (c .before .before .is-in-progress .ensures ∙ ap isInProgress (c .before .before .before .stage-at .ensures)) ∙ not-true _ (c .before .if2 .taken)))
     refl (c .reply2 .ensures)
 
