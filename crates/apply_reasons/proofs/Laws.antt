@@ -9,7 +9,7 @@ use Rattle.bits.specs.Number.{field}
 use Rattle.bits.specs.Place.{get}
 use Rattle.bits.specs.Sets.{has}
 use Rattle.bits.proofs.Tests.{and-both, or-either}
-use Rattle.model.specs.Map.{Image}
+use Rattle.model.specs.Map.{Image, on, page01}
 use Rattle.model.specs.View.{explicit, limitsOf, viewOf}
 use Rattle.model.specs.Verdicts.{outOfLimits, tooLate, wrongState}
 use Rattle.model.specs.declared.lane.Settings.{Settings}
@@ -18,7 +18,7 @@ use Rattle.model.specs.declared.lane.Trigger.the-variants.{DpInit, Immediate}
 
 -- each test with the register that it reads
 pub limits-by : (x : Image) (h : Settings) (e q p o a : ℕ) (r : Bool)
-    → q ≡ field (getD x 281 0) 0 4 → p ≡ field (getD x 282 0) 0 4 → o ≡ field (getD x 282 0) 4 4 → a ≡ field (getD x 281 0) 4 4
+    → q ≡ field (getD x (on page01 153) 0) 0 4 → p ≡ field (getD x (on page01 154) 0) 0 4 → o ≡ field (getD x (on page01 154) 0) 4 4 → a ≡ field (getD x (on page01 153) 0) 4 4
     → r ≡ either (ltb 3 (h .amplitude)) (not (has a (h .amplitude))) → e ≡ explicit h
     → (eqb e 1 && (ltb q (h .equalizer) || (ltb p (h .pre) || (ltb o (h .post) || r)))) ≡ outOfLimits (limitsOf x) h
 unfolding outOfLimits limitsOf get

@@ -16,10 +16,10 @@ use model::lane::Trigger;
 use model::path::PathState;
 
 // 01h:153: the input EQ limit in bits 3-0, the amplitude codes supported in 7-4.
-const EQUALIZER_AND_AMPLITUDES: usize = 281;
+const EQUALIZER_AND_AMPLITUDES: usize = map::PAGE_01 + (153 - 128);
 
 // 01h:154: the pre-cursor limit in bits 3-0, the post-cursor limit in 7-4.
-const PRE_AND_POST: usize = 282;
+const PRE_AND_POST: usize = map::PAGE_01 + (154 - 128);
 
 // The highest amplitude code.
 const HIGHEST_AMPLITUDE: u8 = 3;

@@ -70,7 +70,7 @@ unfolding onlyIf
 only-outside lo hi true f x s = s
 only-outside lo hi false f x s = outside-refl lo hi x
 
--- flag bytes 134 to 153 and the received power lie in 646 .. 713
+-- flag bytes 134 to 153 and the received power lie between DPState and ConfigStatus
 raised-outside : (test : Bool) (flag l : ℕ) (x : Image) → l < 8 → 134 ≤ flag → flag ≤ 153 → SameOutside flagBytes statusBytes x (raisedImage test flag l x)
 unfolding raisedImage
 raised-outside test flag l x b f t = only-outside flagBytes statusBytes test _ x

@@ -17,7 +17,7 @@ use Rattle.bits.proofs.Tests.{split, both-l, both-r}
 use Rattle.bits.proofs.Lanes.{lane-in}
 use Rattle.bits.proofs.Loops.{all-at, all-ext, tab-ext}
 use Rattle.bits.proofs.Words.{word-ext}
-use Rattle.model.specs.Map.{Image, stateAt, statusAt, pendingAt, settingAt, settingOffsets, settingWidths, equalizerLimit, preLimit, postLimit, amplitudeSupport, stateBytes, statusBytes, pendingByte, page10, setLength}
+use Rattle.model.specs.Map.{Image, stateAt, statusAt, pendingAt, settingAt, settingOffsets, settingWidths, equalizerLimit, preLimit, postLimit, amplitudeSupport, stateBytes, statusBytes, pendingByte, page10, setLength, on, page01}
 use Rattle.model.specs.Applications.{applicationCount, firstOnPage, descriptorAt, listReaches, hostLaneCount, isPresent, lookup}
 use Rattle.model.specs.View.{settingsAt, settingsOf, statesOf, applicationsOf, limitsOf}
 use Rattle.model.specs.declared.lane.Settings.{Settings}
@@ -101,13 +101,13 @@ settings-same base x y s = tab-ext 8 _ _ (λ l b. settings-at-same base x y l (�
 
 -- ---- Applications, limits
 
-pub limits-same : (x y : Image) → SameWithin 281 283 x y → limitsOf y ≡ limitsOf x
+pub limits-same : (x y : Image) → SameWithin (on page01 153) (on page01 155) x y → limitsOf y ≡ limitsOf x
 unfolding limitsOf
 limits-same x y s = λ i. record {
-  equalizer = get-same x y equalizerLimit (s 281 (omega arith) (omega arith)) i;
-  pre = get-same x y preLimit (s 282 (omega arith) (omega arith)) i;
-  post = get-same x y postLimit (s 282 (omega arith) (omega arith)) i;
-  amplitudes = get-same x y amplitudeSupport (s 281 (omega arith) (omega arith)) i;
+  equalizer = get-same x y equalizerLimit (s (on page01 153) (omega arith) (omega arith)) i;
+  pre = get-same x y preLimit (s (on page01 154) (omega arith) (omega arith)) i;
+  post = get-same x y postLimit (s (on page01 154) (omega arith) (omega arith)) i;
+  amplitudes = get-same x y amplitudeSupport (s (on page01 153) (omega arith) (omega arith)) i;
 }
 
 pub advertised-between : (i : ℕ) → Advertised i → (86 ≤ i) × (i < page10)
