@@ -1,4 +1,5 @@
--- A night file is answered 9 exactly when it has a fault, and else what start answers to its image (01 "The night file"). Assumes nothing.
+-- A header and a record are refused exactly when they have a fault; a night file, with any limit of records, is answered 9 exactly when it has
+-- a fault, and else what start answers to its image (01 "The night file"). Assumes nothing.
 use mathlib.Core.Path.{_≡_, refl, ap, subst}
 use mathlib.Core.Bool.{Bool, true, false, not}
 use mathlib.Core.List.{List}
@@ -7,7 +8,7 @@ use Prim.Native.Nat.{ℕ, zero, suc, _+_, _*_, _≤_, _<_}
 use native.Mathlib.Decide.{ℕ-discrete}
 use native.Mathlib.Omega.{arith}
 use lib.Dec.{ltb}
-use lib.ListN.{length, take, drop, length-take, length-drop}
+use lib.ListN.{length, getD, take, drop, length-take, length-drop}
 use borrow.Author.Tests.{ltb-true, ltb-false, leb-true, leb-false, eqb-true, eqb-false, lt-ltb, le-leb, eq-eqb, ne-eqb}
 use Rattle.bits.specs.Choice.{pick, both, implies}
 use Rattle.bits.specs.Loop.{allBelow}
@@ -17,11 +18,11 @@ use Rattle.model.specs.Map.{imageLength}
 use Rattle.model.specs.Answers.{number, isDone}
 use Rattle.model.specs.Refusals.{firstOf, isFlat, isBackToFront, wrongLength, imageRefusals, startRefusals}
 use Rattle.model.specs.Outcome.{startOutcomeBy, startOutcome}
-use Rattle.model.specs.File.{recordsOffset, recordLength, recordLimit, imageOffset, recordCount, isHeader, isWholeLength, imageIn, recordByte, kindOf, writeKind, readKind, workKind, hardwareKind, conditionKind, sampleKind, dataLimit, usedBytes, isRecord, isWellFormed, fileCheckBy, fileCheck}
+use Rattle.model.specs.File.{firstForms, firstEdition, recordsOffset, recordLength, imageOffset, recordCount, isHeader, isWholeLength, imageIn, recordIn, kindOf, writeKind, readKind, workKind, hardwareKind, conditionKind, sampleKind, dataLimit, writtenBytes, usedBytes, isRecord, isWellFormed, fileCheckBy, fileCheckUpTo}
 use Rattle.model.specs.declared.answer.Answer.the-variants.{WrongLength, FlatMemory, Malformed, BackToFront}
 use Rattle.model.specs.declared.file.FileCheck.{FileCheck}
 use Rattle.model.specs.declared.file.FileCheck.the-variants.{Refused, Good}
-use Rattle.laws.specs.Files.{NotListed, Unused, pastCount, pastData, pastRead, pastWork, pastHardware, pastCondition, pastSample, Fault, firstLetter, secondLetter, otherEdition, notZero, tooMany, imageElsewhere, recordsElsewhere, otherLength, noSuchKind, unusedByte, Found, malformed, flat, backToFront, good}
+use Rattle.laws.specs.Files.{NotListed, Unused, pastCount, pastData, pastRead, pastWork, pastHardware, pastCondition, pastSample, RecordFault, noSuchKind, unusedByte, HeaderFault, firstLetter, secondLetter, otherEdition, notZero, tooMany, imageElsewhere, recordsElsewhere, Fault, inHeader, otherLength, inRecord, Found, malformed, flat, backToFront, good}
 
 -- ---- tests that fail
 
@@ -42,7 +43,11 @@ all-fails (suc n) p e = both-fails (allBelow n p) (p n)
     (λ a. let r = all-fails n p a in (r .0, omega arith, r .2))
     (λ b. (n, omega arith, b)) e
 
--- ---- records
+-- a test fails exactly on a fault, if a failure shows one and none is met where the test holds
+fails-exactly {ℓ} : {P : Type ℓ} (b : Bool) → (b ≡ false → P) → (b ≡ true → P → ⊥) → (b ≡ false) ↔ P
+fails-exactly b shows none = (shows, λ f. split b (λ e. absurd (none e f)) (λ e. e))
+
+-- ---- a record
 
 -- the kind of a record, or none
 data Kind (kind : ℕ) : Type 0 where
@@ -75,28 +80,28 @@ kind-is kind = elim (ℕ-discrete kind writeKind) [
   ]
 ]
 
-module _ (file : List ℕ) (k : ℕ) where
+module _ (bytes : List ℕ) where
   -- a kind that is not listed uses no byte
-  used-none : NotListed (kindOf file k) → usedBytes file k ≡ 0
+  used-none : NotListed (kindOf bytes) → usedBytes firstForms bytes ≡ 0
   unfolding usedBytes pick
   used-none n = rw (
-    ne-eqb (kindOf file k) writeKind (n .write),
-    ne-eqb (kindOf file k) readKind (n .read),
-    ne-eqb (kindOf file k) workKind (n .work),
-    ne-eqb (kindOf file k) hardwareKind (n .hardware),
-    ne-eqb (kindOf file k) conditionKind (n .condition),
-    ne-eqb (kindOf file k) sampleKind (n .sample),
+    ne-eqb (kindOf bytes) writeKind (n .write),
+    ne-eqb (kindOf bytes) readKind (n .read),
+    ne-eqb (kindOf bytes) workKind (n .work),
+    ne-eqb (kindOf bytes) hardwareKind (n .hardware),
+    ne-eqb (kindOf bytes) conditionKind (n .condition),
+    ne-eqb (kindOf bytes) sampleKind (n .sample),
   )
 
   -- a byte that a record does not use lies past those that it uses
-  unused-past : {j : ℕ} → Unused file k j → usedBytes file k ≤ j
-  unfolding usedBytes pick
-  unused-past (pastCount e h) = rw e (split (ltb dataLimit (recordByte file k 2))
-      (λ t. rw (t, pick) (omega (arith, ltb-true dataLimit (recordByte file k 2) t)))
+  unused-past : {j : ℕ} → Unused bytes j → usedBytes firstForms bytes ≤ j
+  unfolding usedBytes writtenBytes pick
+  unused-past (pastCount e h) = rw e (split (ltb dataLimit (getD bytes 2 0))
+      (λ t. rw (t, pick) (omega (arith, ltb-true dataLimit (getD bytes 2 0) t)))
       (λ t. rw (t, pick) h))
-  unused-past (pastData e h) = rw e (split (ltb dataLimit (recordByte file k 2))
+  unused-past (pastData e h) = rw e (split (ltb dataLimit (getD bytes 2 0))
       (λ t. rw (t, pick) (omega arith))
-      (λ t. rw (t, pick) (omega (arith, ltb-false dataLimit (recordByte file k 2) t))))
+      (λ t. rw (t, pick) (omega (arith, ltb-false dataLimit (getD bytes 2 0) t))))
   unused-past (pastRead e h) = rw e h
   unused-past (pastWork e h) = rw e h
   unused-past (pastHardware e h) = rw e h
@@ -104,86 +109,104 @@ module _ (file : List ℕ) (k : ℕ) where
   unused-past (pastSample e h) = rw e h
 
   -- of a write: past its count, or past the bytes that a record carries
-  write-unused : (j : ℕ) → kindOf file k ≡ writeKind → usedBytes file k ≤ j → Unused file k j
-  unfolding usedBytes pick
-  write-unused j e h = split (ltb dataLimit (recordByte file k 2))
+  write-unused : (j : ℕ) → kindOf bytes ≡ writeKind → usedBytes firstForms bytes ≤ j → Unused bytes j
+  unfolding usedBytes writtenBytes pick
+  write-unused j e h = split (ltb dataLimit (getD bytes 2 0))
       (λ t. pastData e (rw (e, t, pick) at h))
       (λ t. pastCount e (rw (e, t, pick) at h))
 
   -- a record that fails its test has a fault: in a byte that it does not use ..
-  byte-fault : k < recordCount file → 0 < usedBytes file k → ((j : ℕ) → usedBytes file k ≤ j → Unused file k j) → isRecord file k ≡ false → Fault file
+  byte-fault : 0 < usedBytes firstForms bytes → ((j : ℕ) → usedBytes firstForms bytes ≤ j → Unused bytes j) → isRecord firstEdition bytes ≡ false → RecordFault bytes
   unfolding isRecord
-  byte-fault b some past = both-fails _ _
-      (λ e. absurd (clash (lt-ltb 0 (usedBytes file k) some) e))
+  byte-fault some past = both-fails _ _
+      (λ e. absurd (clash (lt-ltb 0 (usedBytes firstForms bytes) some) e))
       (λ e.
       let r = all-fails recordLength _ e in
       let i = implies-fails _ _ (r .2) in
-      unusedByte k (r .0) b (r .1) (past (r .0) (leb-true _ _ (i .0))) (eqb-false _ _ (i .1)))
+      unusedByte (r .0) (r .1) (past (r .0) (leb-true _ _ (i .0))) (eqb-false _ _ (i .1)))
 
   -- .. or in its kind
-  record-fault : k < recordCount file → Kind (kindOf file k) → isRecord file k ≡ false → Fault file
-  unfolding usedBytes pick
-  record-fault b (writes e) = byte-fault b (rw e (omega arith)) (λ j. write-unused j e)
-  record-fault b (reads e) = byte-fault b (rw e (omega arith)) (λ j h. pastRead e (rw e at h))
-  record-fault b (works e) = byte-fault b (rw e (omega arith)) (λ j h. pastWork e (rw e at h))
-  record-fault b (moves e) = byte-fault b (rw e (omega arith)) (λ j h. pastHardware e (rw e at h))
-  record-fault b (raises e) = byte-fault b (rw e (omega arith)) (λ j h. pastCondition e (rw e at h))
-  record-fault b (samples e) = byte-fault b (rw e (omega arith)) (λ j h. pastSample e (rw e at h))
-  record-fault b (other n) = λ e. noSuchKind k b n
+  record-fault : Kind (kindOf bytes) → isRecord firstEdition bytes ≡ false → RecordFault bytes
+  unfolding usedBytes writtenBytes pick
+  record-fault (writes e) = byte-fault (rw e (omega arith)) (λ j. write-unused j e)
+  record-fault (reads e) = byte-fault (rw e (omega arith)) (λ j h. pastRead e (rw e at h))
+  record-fault (works e) = byte-fault (rw e (omega arith)) (λ j h. pastWork e (rw e at h))
+  record-fault (moves e) = byte-fault (rw e (omega arith)) (λ j h. pastHardware e (rw e at h))
+  record-fault (raises e) = byte-fault (rw e (omega arith)) (λ j h. pastCondition e (rw e at h))
+  record-fault (samples e) = byte-fault (rw e (omega arith)) (λ j h. pastSample e (rw e at h))
+  record-fault (other n) = λ e. noSuchKind n
 
--- the number of what is found; 0 where the file is good
-abbrev numberIn : FileCheck → ℕ
-numberIn (Refused a) = number a
-numberIn (Good n) = 0
+  -- one that passes has none
+  no-record-fault : isRecord firstEdition bytes ≡ true → RecordFault bytes → ⊥
+  unfolding isRecord
+  no-record-fault h (noSuchKind n) = let u : 0 < usedBytes firstForms bytes = ltb-true _ _ (both-l _ _ h) in omega (arith, used-none n)
+  no-record-fault h (unusedByte j b u n) = n (eqb-true _ _ (implies-use _ _ (all-at recordLength _ (both-r _ _ h) j b) (le-leb _ _ (unused-past u))))
 
--- ---- the test of a whole file fails exactly where there is a fault
+  -- the test of a record fails exactly where it has a fault
+  pub record-exactly : (isRecord firstEdition bytes ≡ false) ↔ RecordFault bytes
+  record-exactly = fails-exactly _ (record-fault (kind-is (kindOf bytes))) no-record-fault
 
-module _ (file : List ℕ) where
-  -- where it fails ..
-  header-fault : isHeader file ≡ false → Fault file
+-- ---- a header
+
+module _ (limit : ℕ) (header : List ℕ) where
+  header-fault : isHeader limit header ≡ false → HeaderFault limit header
   unfolding isHeader
   header-fault =
       both-fails _ _
       (both-fails _ _ (λ e. firstLetter (eqb-false _ _ e)) (λ e. secondLetter (eqb-false _ _ e)))
       (both-fails _ _
       (both-fails _ _ (λ e. otherEdition (eqb-false _ _ e)) (λ e. notZero (eqb-false _ _ e)))
-      (both-fails _ _ (λ e. tooMany (omega (arith, leb-false (recordCount file) recordLimit e)))
+      (both-fails _ _ (λ e. tooMany (omega (arith, leb-false (recordCount header) limit e)))
       (both-fails _ _ (λ e. imageElsewhere (eqb-false _ _ e)) (λ e. recordsElsewhere (eqb-false _ _ e)))))
 
-  a-fault : isWellFormed file ≡ false → Fault file
+  no-header-fault : isHeader limit header ≡ true → HeaderFault limit header → ⊥
+  unfolding isHeader
+  no-header-fault h (firstLetter n) = n (eqb-true _ _ (both-l _ _ (both-l _ _ h)))
+  no-header-fault h (secondLetter n) = n (eqb-true _ _ (both-r _ _ (both-l _ _ h)))
+  no-header-fault h (otherEdition n) = n (eqb-true _ _ (both-l _ _ (both-l _ _ (both-r _ _ h))))
+  no-header-fault h (notZero n) = n (eqb-true _ _ (both-r _ _ (both-l _ _ (both-r _ _ h))))
+  no-header-fault h (tooMany n) = let b : recordCount header ≤ limit = leb-true _ _ (both-l _ _ (both-r _ _ (both-r _ _ h))) in omega arith
+  no-header-fault h (imageElsewhere n) = n (eqb-true _ _ (both-l _ _ (both-r _ _ (both-r _ _ (both-r _ _ h)))))
+  no-header-fault h (recordsElsewhere n) = n (eqb-true _ _ (both-r _ _ (both-r _ _ (both-r _ _ (both-r _ _ h)))))
+
+  -- the test of a header fails exactly where it has a fault
+  pub header-exactly : (isHeader limit header ≡ false) ↔ HeaderFault limit header
+  header-exactly = fails-exactly _ header-fault no-header-fault
+
+-- ---- a whole file
+
+-- the number of what is found; 0 where the file is good
+abbrev numberIn : FileCheck → ℕ
+numberIn (Refused a) = number a
+numberIn (Good n) = 0
+
+module _ (limit : ℕ) (file : List ℕ) where
+  -- where it fails ..
+  a-fault : isWellFormed limit file ≡ false → Fault limit file
   unfolding isWellFormed isWholeLength
   a-fault =
       both-fails _ _
-      (both-fails _ _ header-fault (λ e. otherLength (eqb-false _ _ e)))
-      (λ e. let r = all-fails (recordCount file) (isRecord file) e in record-fault file (r .0) (r .1) (kind-is (kindOf file (r .0))) (r .2))
+      (both-fails _ _ (λ e. inHeader (header-exactly limit file .0 e)) (λ e. otherLength (eqb-false _ _ e)))
+      (λ e. let r = all-fails (recordCount file) _ e in inRecord (r .0) (r .1) (record-exactly (recordIn file (r .0)) .0 (r .2)))
 
   -- .. and where it holds
-  module _ (formed : isWellFormed file ≡ true) where
-    its-header : isHeader file ≡ true
+  module _ (formed : isWellFormed limit file ≡ true) where
+    its-header : isHeader limit file ≡ true
     unfolding isWellFormed
     its-header = both-l _ _ (both-l _ _ formed)
 
-    its-length : length file ≡ recordsOffset + recordLength * recordCount file
+    its-length : length file ≡ recordsOffset firstEdition + recordLength * recordCount file
     unfolding isWellFormed isWholeLength
     its-length = eqb-true _ _ (both-r _ _ (both-l _ _ formed))
 
-    its-record : (k : ℕ) → k < recordCount file → isRecord file k ≡ true
+    its-record : (k : ℕ) → k < recordCount file → isRecord firstEdition (recordIn file k) ≡ true
     unfolding isWellFormed
     its-record = all-at _ _ (both-r _ _ formed)
 
-    no-fault : Fault file → ⊥
-    unfolding isHeader isRecord
-    no-fault (firstLetter n) = n (eqb-true _ _ (both-l _ _ (both-l _ _ its-header)))
-    no-fault (secondLetter n) = n (eqb-true _ _ (both-r _ _ (both-l _ _ its-header)))
-    no-fault (otherEdition n) = n (eqb-true _ _ (both-l _ _ (both-l _ _ (both-r _ _ its-header))))
-    no-fault (notZero n) = n (eqb-true _ _ (both-r _ _ (both-l _ _ (both-r _ _ its-header))))
-    no-fault (tooMany n) = let b : recordCount file ≤ recordLimit = leb-true _ _ (both-l _ _ (both-r _ _ (both-r _ _ its-header))) in omega arith
-    no-fault (imageElsewhere n) = n (eqb-true _ _ (both-l _ _ (both-r _ _ (both-r _ _ (both-r _ _ its-header)))))
-    no-fault (recordsElsewhere n) = n (eqb-true _ _ (both-r _ _ (both-r _ _ (both-r _ _ (both-r _ _ its-header)))))
+    no-fault : Fault limit file → ⊥
+    no-fault (inHeader f) = clash its-header (header-exactly limit file .1 f)
     no-fault (otherLength n) = n its-length
-    no-fault (noSuchKind k b n) = let u : 0 < usedBytes file k = ltb-true _ _ (both-l _ _ (its-record k b)) in omega (arith, used-none file k n)
-    no-fault (unusedByte k j b c u n) =
-        n (eqb-true _ _ (implies-use _ _ (all-at recordLength _ (both-r _ _ (its-record k b)) j c) (le-leb _ _ (unused-past file k u))))
+    no-fault (inRecord k b f) = clash (its-record k b) (record-exactly (recordIn file k) .1 f)
 
     -- so its image has the right length ..
     its-image : wrongLength (imageIn file) ≡ false
@@ -192,64 +215,65 @@ module _ (file : List ℕ) where
         (omega (arith, length-take imageLength (drop imageOffset file), length-drop imageOffset file, its-length)))
 
     -- .. and what start asks of it is what is found
-    found-flat : isFlat (imageIn file) ≡ true → fileCheck file ≡ Refused FlatMemory
-    unfolding fileCheck fileCheckBy startRefusals imageRefusals firstOf isDone pick
+    found-flat : isFlat (imageIn file) ≡ true → fileCheckUpTo limit file ≡ Refused FlatMemory
+    unfolding fileCheckUpTo fileCheckBy startRefusals imageRefusals firstOf isDone pick
     found-flat e = rw (formed, its-image, e)
 
-    found-turned : isFlat (imageIn file) ≡ false → isBackToFront (imageIn file) ≡ true → fileCheck file ≡ Refused BackToFront
-    unfolding fileCheck fileCheckBy startRefusals imageRefusals firstOf isDone pick
+    found-turned : isFlat (imageIn file) ≡ false → isBackToFront (imageIn file) ≡ true → fileCheckUpTo limit file ≡ Refused BackToFront
+    unfolding fileCheckUpTo fileCheckBy startRefusals imageRefusals firstOf isDone pick
     found-turned e f = rw (formed, its-image, e, f)
 
-    found-good : isFlat (imageIn file) ≡ false → isBackToFront (imageIn file) ≡ false → fileCheck file ≡ Good (recordCount file)
-    unfolding fileCheck fileCheckBy startRefusals imageRefusals firstOf isDone pick
+    found-good : isFlat (imageIn file) ≡ false → isBackToFront (imageIn file) ≡ false → fileCheckUpTo limit file ≡ Good (recordCount file)
+    unfolding fileCheckUpTo fileCheckBy startRefusals imageRefusals firstOf isDone pick
     found-good e f = rw (formed, its-image, e, f)
+
+  -- the test of a file fails exactly where it has a fault
+  pub formed-exactly : (isWellFormed limit file ≡ false) ↔ Fault limit file
+  formed-exactly = fails-exactly _ a-fault no-fault
 
   -- ---- what is found
 
-  found-fault : isWellFormed file ≡ false → fileCheck file ≡ Refused Malformed
-  unfolding fileCheck pick
+  found-fault : isWellFormed limit file ≡ false → fileCheckUpTo limit file ≡ Refused Malformed
+  unfolding fileCheckUpTo pick
   found-fault e = rw e
 
-  formed-file : (Fault file → ⊥) → isWellFormed file ≡ true
-  formed-file n = split (isWellFormed file) (λ e. e) (λ e. absurd (n (a-fault e)))
+  formed-file : (Fault limit file → ⊥) → isWellFormed limit file ≡ true
+  formed-file n = split (isWellFormed limit file) (λ e. e) (λ e. absurd (n (formed-exactly .0 e)))
 
-  faulty-file : Fault file → isWellFormed file ≡ false
-  faulty-file f = split (isWellFormed file) (λ e. absurd (no-fault e f)) (λ e. e)
-
-  found : Found file (fileCheck file)
-  found = split (isWellFormed file)
+  found : Found limit file (fileCheckUpTo limit file)
+  found = split (isWellFormed limit file)
       (λ w. split (isFlat (imageIn file))
       (λ e. rw (found-flat w e) (flat (no-fault w) e))
       (λ e. split (isBackToFront (imageIn file))
       (λ f. rw (found-turned w e f) (backToFront (no-fault w) e f))
       (λ f. rw (found-good w e f) (good (no-fault w) e f))))
-      (λ w. rw (found-fault w) (malformed (a-fault w)))
+      (λ w. rw (found-fault w) (malformed (formed-exactly .0 w)))
 
-  is-found : {r : FileCheck} → Found file r → fileCheck file ≡ r
-  is-found (malformed f) = found-fault (faulty-file f)
+  is-found : {r : FileCheck} → Found limit file r → fileCheckUpTo limit file ≡ r
+  is-found (malformed f) = found-fault (formed-exactly .1 f)
   is-found (flat n e) = found-flat (formed-file n) e
   is-found (backToFront n e f) = found-turned (formed-file n) e f
   is-found (good n e f) = found-good (formed-file n) e f
 
   -- the check of a file finds each result exactly when 01 says so, and no other
-  pub checked-exactly : (r : FileCheck) → (fileCheck file ≡ r) ↔ Found file r
-  checked-exactly r = (λ e. subst (Found file) e found, is-found)
+  pub checked-exactly : (r : FileCheck) → (fileCheckUpTo limit file ≡ r) ↔ Found limit file r
+  checked-exactly r = (λ e. subst (Found limit file) e found, is-found)
 
-  found-number : {r : FileCheck} → Found file r → (numberIn r ≡ 9 → Fault file) × (numberIn r ≢ 1)
+  found-number : {r : FileCheck} → Found limit file r → (numberIn r ≡ 9 → Fault limit file) × (numberIn r ≢ 1)
   found-number (malformed f) = (λ e. f, λ e. omega arith)
   found-number (flat n h) = (λ e. absurd (omega arith), λ e. omega arith)
   found-number (backToFront n h i) = (λ e. absurd (omega arith), λ e. omega arith)
   found-number (good n h i) = (λ e. absurd (omega arith), λ e. omega arith)
 
   -- 9 exactly where there is a fault
-  pub malformed-exactly : (fileCheck file ≡ Refused Malformed) ↔ Fault file
+  pub malformed-exactly : (fileCheckUpTo limit file ≡ Refused Malformed) ↔ Fault limit file
   malformed-exactly = (λ e. found-number found .0 (ap numberIn e), λ f. is-found (malformed f))
 
   -- a file with no fault is answered as start answers to its image ..
-  pub file-as-start : (Fault file → ⊥) → fileCheck file ≡ fileCheckBy (startOutcome (imageIn file) .answer) file
-  unfolding fileCheck startOutcome startOutcomeBy pick
+  pub file-as-start : (Fault limit file → ⊥) → fileCheckUpTo limit file ≡ fileCheckBy (startOutcome (imageIn file) .answer) file
+  unfolding fileCheckUpTo startOutcome startOutcomeBy pick
   file-as-start n = rw (formed-file n)
 
   -- .. and none with 1
-  pub never-1 : fileCheck file ≢ Refused WrongLength
+  pub never-1 : fileCheckUpTo limit file ≢ Refused WrongLength
   never-1 e = found-number found .1 (ap numberIn e)

@@ -9,9 +9,9 @@ use lib.ListN.{getD}
 use Rattle.bits.specs.Choice.{pick}
 use Rattle.model.specs.Answers.{number}
 use Rattle.model.specs.Step.{Stepped}
-use Rattle.model.specs.File.{fileCheck}
+use Rattle.model.specs.File.{fileCheckUpTo}
 use Rattle.model.specs.Text.{ascii, newline, digitText, decimalUpTo, decimal, line, badLine}
-use Rattle.model.specs.Night.{linesFrom, nightOf, printedTextBy, printedText}
+use Rattle.model.specs.Night.{linesFrom, nightOf, printedTextBy, printedUpTo}
 use Rattle.model.specs.declared.answer.Answer.{Answer}
 use Rattle.model.specs.declared.answer.Answer.the-variants.{Done, WrongLength, FlatMemory, Unsound, BadAccess, ShortBuffer, NothingOnLane, Busy, NoSuchTarget, Malformed, BackToFront}
 use Rattle.model.specs.declared.file.FileCheck.{FileCheck}
@@ -59,20 +59,20 @@ unfolding linesFrom line decimal decimalUpTo digitText pick
 not-bad [] n e = let z : _≡_ {A = ℕ} 0 0x62 = ap (λ text. getD text 0 0) e ∙ first-of-bad n in omega arith
 not-bad (o ∷ os) n e = let z : _≡_ {A = ℕ} 0x30 0x62 = ap (λ text. getD text 0 0) e ∙ first-of-bad n in omega arith
 
-module _ (file : List ℕ) where
-  bad-back : (r : FileCheck) (a : Answer) → printedTextBy r file ≡ badLine (number a) → r ≡ Refused a
-  unfolding printedTextBy
-  bad-back (Refused b) a e = ap Refused (sym (shown-back b) ∙ ap shownNumber e ∙ shown-back a)
-  bad-back (Good n) a e = absurd (not-bad (nightOf file) (number a) e)
+bad-back : (file : List ℕ) (r : FileCheck) (a : Answer) → printedTextBy r file ≡ badLine (number a) → r ≡ Refused a
+unfolding printedTextBy
+bad-back file (Refused b) a e = ap Refused (sym (shown-back b) ∙ ap shownNumber e ∙ shown-back a)
+bad-back file (Good n) a e = absurd (not-bad (nightOf file) (number a) e)
 
+module _ (limit : ℕ) (file : List ℕ) where
   -- `bad` and a number is printed exactly where the check answers that number
-  pub printed-exactly : (a : Answer) → (printedText file ≡ badLine (number a)) ↔ (fileCheck file ≡ Refused a)
-  unfolding printedText printedTextBy
-  printed-exactly a = (bad-back (fileCheck file) a, λ e. ap (λ r. printedTextBy r file) e)
+  pub printed-exactly : (a : Answer) → (printedUpTo limit file ≡ badLine (number a)) ↔ (fileCheckUpTo limit file ≡ Refused a)
+  unfolding printedUpTo printedTextBy
+  printed-exactly a = (bad-back file (fileCheckUpTo limit file) a, λ e. ap (λ r. printedTextBy r file) e)
 
   -- `bad 9` exactly where the file has a fault
-  pub printed-malformed : (printedText file ≡ badLine 9) ↔ Fault file
+  pub printed-malformed : (printedUpTo limit file ≡ badLine 9) ↔ Fault limit file
   printed-malformed = (
-    λ e. malformed-exactly file .0 (printed-exactly Malformed .0 e),
-    λ f. printed-exactly Malformed .1 (malformed-exactly file .1 f),
+    λ e. malformed-exactly limit file .0 (printed-exactly Malformed .0 e),
+    λ f. printed-exactly Malformed .1 (malformed-exactly limit file .1 f),
   )

@@ -1,4 +1,5 @@
--- When a night file is malformed, fault by fault, and what is found of every file (01 "The night file").
+-- When a header, a record and a night file are malformed, fault by fault, and what is found of every file (01 "The night file").
+-- A file may count as many records as a limit says.
 use mathlib.Core.Path.{_≡_}
 use mathlib.Core.Bool.{true, false}
 use mathlib.Core.List.{List}
@@ -7,7 +8,7 @@ use Prim.Native.Nat.{ℕ, _+_, _*_, _≤_, _<_}
 use lib.ListN.{length, getD}
 use Rattle.bits.specs.Word.{word}
 use Rattle.model.specs.Refusals.{isFlat, isBackToFront}
-use Rattle.model.specs.File.{edition, imageOffset, recordsOffset, recordLength, recordLimit, recordCount, imageIn, recordByte, kindOf, writeKind, readKind, workKind, hardwareKind, conditionKind, sampleKind, dataStart, dataLimit}
+use Rattle.model.specs.File.{firstEdition, imageOffset, recordsOffset, recordLength, recordCount, imageIn, recordIn, kindOf, writeKind, readKind, workKind, hardwareKind, conditionKind, sampleKind, dataStart, dataLimit}
 use Rattle.model.specs.declared.answer.Answer.the-variants.{FlatMemory, Malformed, BackToFront}
 use Rattle.model.specs.declared.file.FileCheck.{FileCheck}
 use Rattle.model.specs.declared.file.FileCheck.the-variants.{Refused, Good}
@@ -21,33 +22,41 @@ pub record NotListed (kind : ℕ) : Type 0 where
   pub condition : kind ≢ conditionKind
   pub sample : kind ≢ sampleKind
 
--- byte j of record k is one that its kind does not use: what lies past a write's count of data, or past the eight bytes that a record carries;
+-- byte j of a record is one that its kind does not use: what lies past a write's count of data, or past the eight bytes that a record carries;
 -- past a read's address and count, a lane, a flag byte and its mask, a lane and the two bytes of its sample
-pub data Unused (file : List ℕ) (k j : ℕ) : Type 0 where
-  pastCount : kindOf file k ≡ writeKind → dataStart + recordByte file k 2 ≤ j → Unused file k j
-  pastData : kindOf file k ≡ writeKind → dataStart + dataLimit ≤ j → Unused file k j
-  pastRead : kindOf file k ≡ readKind → 3 ≤ j → Unused file k j
-  pastWork : kindOf file k ≡ workKind → 2 ≤ j → Unused file k j
-  pastHardware : kindOf file k ≡ hardwareKind → 2 ≤ j → Unused file k j
-  pastCondition : kindOf file k ≡ conditionKind → 3 ≤ j → Unused file k j
-  pastSample : kindOf file k ≡ sampleKind → 4 ≤ j → Unused file k j
+pub data Unused (bytes : List ℕ) (j : ℕ) : Type 0 where
+  pastCount : kindOf bytes ≡ writeKind → dataStart + getD bytes 2 0 ≤ j → Unused bytes j
+  pastData : kindOf bytes ≡ writeKind → dataStart + dataLimit ≤ j → Unused bytes j
+  pastRead : kindOf bytes ≡ readKind → 3 ≤ j → Unused bytes j
+  pastWork : kindOf bytes ≡ workKind → 2 ≤ j → Unused bytes j
+  pastHardware : kindOf bytes ≡ hardwareKind → 2 ≤ j → Unused bytes j
+  pastCondition : kindOf bytes ≡ conditionKind → 3 ≤ j → Unused bytes j
+  pastSample : kindOf bytes ≡ sampleKind → 4 ≤ j → Unused bytes j
 
--- a fault: in the header (letters "WL", edition, zero, count, offsets), in the length, in a record's kind, in a byte that a record does not use
-pub data Fault (file : List ℕ) : Type 0 where
-  firstLetter : getD file 0 0 ≢ 0x57 → Fault file
-  secondLetter : getD file 1 0 ≢ 0x4c → Fault file
-  otherEdition : getD file 2 0 ≢ edition → Fault file
-  notZero : getD file 3 0 ≢ 0 → Fault file
-  tooMany : recordLimit < recordCount file → Fault file
-  imageElsewhere : word 4 file 8 ≢ imageOffset → Fault file
-  recordsElsewhere : word 4 file 12 ≢ recordsOffset → Fault file
-  otherLength : length file ≢ recordsOffset + recordLength * recordCount file → Fault file
-  noSuchKind : (k : ℕ) → k < recordCount file → NotListed (kindOf file k) → Fault file
-  unusedByte : (k j : ℕ) → k < recordCount file → j < recordLength → Unused file k j → recordByte file k j ≢ 0 → Fault file
+-- a fault of a record: in its kind, in a byte that it does not use
+pub data RecordFault (bytes : List ℕ) : Type 0 where
+  noSuchKind : NotListed (kindOf bytes) → RecordFault bytes
+  unusedByte : (j : ℕ) → j < recordLength → Unused bytes j → getD bytes j 0 ≢ 0 → RecordFault bytes
+
+-- a fault of a header: in the letters "WL", the edition, the zero, the count, the offsets
+pub data HeaderFault (limit : ℕ) (header : List ℕ) : Type 0 where
+  firstLetter : getD header 0 0 ≢ 0x57 → HeaderFault limit header
+  secondLetter : getD header 1 0 ≢ 0x4c → HeaderFault limit header
+  otherEdition : getD header 2 0 ≢ firstEdition .number → HeaderFault limit header
+  notZero : getD header 3 0 ≢ 0 → HeaderFault limit header
+  tooMany : limit < recordCount header → HeaderFault limit header
+  imageElsewhere : word 4 header 8 ≢ imageOffset → HeaderFault limit header
+  recordsElsewhere : word 4 header 12 ≢ recordsOffset firstEdition → HeaderFault limit header
+
+-- a fault of a file: in its header, in its length, in a record
+pub data Fault (limit : ℕ) (file : List ℕ) : Type 0 where
+  inHeader : HeaderFault limit file → Fault limit file
+  otherLength : length file ≢ recordsOffset firstEdition + recordLength * recordCount file → Fault limit file
+  inRecord : (k : ℕ) → k < recordCount file → RecordFault (recordIn file k) → Fault limit file
 
 -- what is found of a file: 9 where it has a fault; else 2 and 10 as start of its image has them; else it is good
-pub data Found (file : List ℕ) : FileCheck → Type 0 where
-  malformed : Fault file → Found file (Refused Malformed)
-  flat : (Fault file → ⊥) → isFlat (imageIn file) ≡ true → Found file (Refused FlatMemory)
-  backToFront : (Fault file → ⊥) → isFlat (imageIn file) ≡ false → isBackToFront (imageIn file) ≡ true → Found file (Refused BackToFront)
-  good : (Fault file → ⊥) → isFlat (imageIn file) ≡ false → isBackToFront (imageIn file) ≡ false → Found file (Good (recordCount file))
+pub data Found (limit : ℕ) (file : List ℕ) : FileCheck → Type 0 where
+  malformed : Fault limit file → Found limit file (Refused Malformed)
+  flat : (Fault limit file → ⊥) → isFlat (imageIn file) ≡ true → Found limit file (Refused FlatMemory)
+  backToFront : (Fault limit file → ⊥) → isFlat (imageIn file) ≡ false → isBackToFront (imageIn file) ≡ true → Found limit file (Refused BackToFront)
+  good : (Fault limit file → ⊥) → isFlat (imageIn file) ≡ false → isBackToFront (imageIn file) ≡ false → Found limit file (Good (recordCount file))

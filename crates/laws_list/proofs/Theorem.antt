@@ -15,9 +15,9 @@ use Rattle.model.specs.Start.{startedState}
 use Rattle.model.specs.Refusals.{firstOf, startRefusals, listRefusals}
 use Rattle.model.specs.Step.{Stepped, step, run}
 use Rattle.model.specs.Outcome.{laidOver, listRoom, numbersOf, startOutcomeBy, startOutcome, stepOutcome, listOutcomeBy, listOutcome}
-use Rattle.model.specs.File.{recordCount, imageIn, eventAt, eventsIn, isWellFormed, fileCheckBy, fileCheck}
+use Rattle.model.specs.File.{recordLimit, recordCount, imageIn, recordIn, eventOf, eventsIn, isWellFormed, fileCheckBy, fileCheckUpTo}
 use Rattle.model.specs.Text.{line}
-use Rattle.model.specs.Night.{linesFrom, nightOf, printedTextBy, printedText}
+use Rattle.model.specs.Night.{linesFrom, nightOf, printedTextBy, printedUpTo, printedText}
 use Rattle.model.specs.declared.answer.Answer.{Answer}
 use Rattle.model.specs.declared.answer.Answer.the-variants.{Done}
 use Rattle.model.specs.declared.file.FileCheck.the-variants.{Refused, Good}
@@ -58,8 +58,8 @@ not-good a n e = let z : _≡_ {A = ℕ} 0 1 = cc in omega arith
 module _ (file : List ℕ) (replayed : Replayed file) where
   -- start of its image is done
   begins : StartDone (imageIn file)
-  unfolding fileCheck fileCheckBy startOutcome startOutcomeBy pick
-  begins = split (isWellFormed file)
+  unfolding fileCheckUpTo fileCheckBy startOutcome startOutcomeBy pick
+  begins = split (isWellFormed recordLimit file)
       (λ w. split (isDone (firstOf (startRefusals (imageIn file))))
       (λ d. done-is _ d)
       (λ d. absurd (not-good _ _ (rw (w, d, pick) at replayed))))
@@ -70,14 +70,14 @@ module _ (file : List ℕ) (replayed : Replayed file) where
 
   count-is : length (eventsIn file) ≡ recordCount file
   unfolding eventsIn
-  count-is = length-tab (recordCount file) (eventAt file)
+  count-is = length-tab (recordCount file) (λ k. eventOf (recordIn file k))
 
   numbers-length : length (numbersOf (nightOf file)) ≡ recordCount file
   unfolding nightOf
   numbers-length = length-numbers _ ∙ length-run early listRoom (startedState (imageIn file)) (eventsIn file) ∙ count-is
 
   prints : printedText file ≡ linesFrom 0 (nightOf file)
-  unfolding printedText printedTextBy
+  unfolding printedUpTo printedTextBy
   prints = ap (λ found. printedTextBy found file) replayed
 
   -- THE THEOREM for every file that is replayed, and all calls of its records: it prints what they give

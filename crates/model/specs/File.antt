@@ -1,13 +1,13 @@
 -- The night file: header, image, records (01 "The night file").
 use Prim.Native.Nat.{_+_, _*_}
 use mathlib.Core.Bool.{Bool}
-use mathlib.Core.List.{List}
+use mathlib.Core.List.{List, [], _∷_}
 use lib.Dec.{eqb, leb, ltb}
 use lib.ListN.{length, getD, take, drop}
 use Rattle.bits.specs.Choice.{pick, both, implies}
 use Rattle.bits.specs.Loop.{tab, allBelow}
 use Rattle.bits.specs.Word.{word}
-use Rattle.model.specs.Numbers.{Byte, Bytes, Count, Index, RecordIndex}
+use Rattle.model.specs.Numbers.{Byte, Bytes, Count, RecordIndex}
 use Rattle.model.specs.Map.{Image, imageLength}
 use Rattle.model.specs.Answers.{isDone}
 use Rattle.model.specs.Refusals.{firstOf, startRefusals}
@@ -19,52 +19,18 @@ use Rattle.model.specs.declared.event.Event.{Event}
 use Rattle.model.specs.declared.file.FileCheck.{FileCheck}
 use Rattle.model.specs.declared.file.FileCheck.the-variants.{Refused, Good}
 
--- ---- the header: "WL", edition, 0, then three numbers of four bytes
+-- ---- the editions of the file
 
-abbrev pub edition : Byte
-edition = 1
+-- the form of a record: its kind, and how many of its bytes the kind uses
+pub record Form : Type 0 where
+  pub kind : Byte
+  pub used : Bytes → Count
 
-abbrev pub imageOffset : Count
-imageOffset = 16
-
-abbrev pub recordsOffset : Count
-recordsOffset = imageOffset + imageLength
-
-abbrev pub recordLength : Count
-recordLength = 12
-
-abbrev pub recordLimit : Count
-recordLimit = 5000
-
-unfoldable pub recordCount : Bytes → Count
-recordCount file = word 4 file 4
-
-unfoldable pub isHeader : Bytes → Bool
-isHeader file =
-    both (both (eqb (getD file 0 0) 0x57) (eqb (getD file 1 0) 0x4c))
-    (both (both (eqb (getD file 2 0) edition) (eqb (getD file 3 0) 0))
-    (both (leb (recordCount file) recordLimit) (both (eqb (word 4 file 8) imageOffset) (eqb (word 4 file 12) recordsOffset))))
-
-unfoldable pub isWholeLength : Bytes → Bool
-isWholeLength file = eqb (length file) (recordsOffset + recordLength * recordCount file)
-
--- ---- the image
-
-unfoldable pub imageIn : Bytes → Image
-imageIn file = take imageLength (drop imageOffset file)
-
--- ---- the records
-
--- where record k ends
-abbrev pub recordEnd : RecordIndex → Count
-recordEnd k = recordsOffset + recordLength * k + recordLength
-
--- byte j of record k
-unfoldable pub recordByte : Bytes → RecordIndex → Index → Byte
-recordByte file k j = getD file (recordsOffset + recordLength * k + j) 0
-
-abbrev pub kindOf : Bytes → RecordIndex → Byte
-kindOf file k = recordByte file k 0
+-- an edition: its number, the length of its image, the forms of its records
+pub record Edition : Type 0 where
+  pub number : Byte
+  pub imageBytes : Count
+  pub forms : List Form
 
 abbrev pub writeKind : Byte
 writeKind = 1
@@ -91,43 +57,123 @@ dataStart = 3
 abbrev pub dataLimit : Count
 dataLimit = 8
 
+-- a write uses the data that it counts, as far as a record carries them
+unfoldable pub writtenBytes : Bytes → Count
+writtenBytes bytes = dataStart + pick (ltb dataLimit (getD bytes 2 0)) dataLimit (getD bytes 2 0)
+
+abbrev pub form : Byte → (Bytes → Count) → Form
+form kind used = record { kind = kind; used = used }
+
+abbrev pub firstForms : List Form
+firstForms =
+    form writeKind writtenBytes
+    ∷ form readKind (λ bytes. 3)
+    ∷ form workKind (λ bytes. 2)
+    ∷ form hardwareKind (λ bytes. 2)
+    ∷ form conditionKind (λ bytes. 3)
+    ∷ form sampleKind (λ bytes. 4)
+    ∷ []
+
+abbrev pub firstEdition : Edition
+firstEdition = record { number = 1; imageBytes = imageLength; forms = firstForms }
+
+-- every edition from the second on
+abbrev pub laterEditions : List Edition
+laterEditions = []
+
+-- the edition of a number; the first where no later one has it
+abbrev pub editionAmong : List Edition → Byte → Edition
+editionAmong [] n = firstEdition
+editionAmong (e ∷ es) n = pick (eqb n (e .number)) e (editionAmong es n)
+
+-- ---- the header, 16 bytes: "WL", edition, 0, then three numbers of four bytes
+
+abbrev pub imageOffset : Count
+imageOffset = 16
+
+-- the edition that a header names
+abbrev pub editionOf : Bytes → Edition
+editionOf header = editionAmong laterEditions (getD header 2 0)
+
+-- an edition's records follow its image
+abbrev pub recordsOffset : Edition → Count
+recordsOffset e = imageOffset + e .imageBytes
+
+unfoldable pub recordCount : Bytes → Count
+recordCount header = word 4 header 4
+
+-- a header that counts no more records than a limit
+unfoldable pub isHeader : Count → Bytes → Bool
+isHeader limit header =
+    both (both (eqb (getD header 0 0) 0x57) (eqb (getD header 1 0) 0x4c))
+    (both (both (eqb (getD header 2 0) (editionOf header .number)) (eqb (getD header 3 0) 0))
+    (both (leb (recordCount header) limit)
+    (both (eqb (word 4 header 8) imageOffset) (eqb (word 4 header 12) (recordsOffset (editionOf header))))))
+
+-- ---- a record, 12 bytes
+
+abbrev pub recordLength : Count
+recordLength = 12
+
+abbrev pub kindOf : Bytes → Byte
+kindOf bytes = getD bytes 0 0
+
 -- how many of a record's bytes its kind uses; none for a kind that is not listed
-unfoldable pub usedBytes : Bytes → RecordIndex → Count
-usedBytes file k =
-    pick (eqb (kindOf file k) writeKind) (dataStart + pick (ltb dataLimit (recordByte file k 2)) dataLimit (recordByte file k 2))
-    (pick (eqb (kindOf file k) readKind) 3
-    (pick (eqb (kindOf file k) workKind) 2
-    (pick (eqb (kindOf file k) hardwareKind) 2
-    (pick (eqb (kindOf file k) conditionKind) 3
-    (pick (eqb (kindOf file k) sampleKind) 4 0)))))
+unfoldable pub usedBytes : List Form → Bytes → Count
+usedBytes [] bytes = 0
+usedBytes (f ∷ fs) bytes = pick (eqb (kindOf bytes) (f .kind)) (f .used bytes) (usedBytes fs bytes)
 
 -- a listed kind, and zeros in the bytes that it does not use
-unfoldable pub isRecord : Bytes → RecordIndex → Bool
-isRecord file k =
-    both (ltb 0 (usedBytes file k)) (allBelow recordLength (λ j. implies (leb (usedBytes file k) j) (eqb (recordByte file k j) 0)))
+unfoldable pub isRecord : Edition → Bytes → Bool
+isRecord e bytes =
+    both (ltb 0 (usedBytes (e .forms) bytes))
+    (allBelow recordLength (λ j. implies (leb (usedBytes (e .forms) bytes) j) (eqb (getD bytes j 0) 0)))
 
-unfoldable pub callAt : Bytes → RecordIndex → Call
-callAt file k =
-    pick (eqb (kindOf file k) writeKind) (Write (recordByte file k 1) (recordByte file k 2))
-    (pick (eqb (kindOf file k) readKind) (Read (recordByte file k 1) (recordByte file k 2))
-    (pick (eqb (kindOf file k) workKind) (Work (recordByte file k 1))
-    (pick (eqb (kindOf file k) hardwareKind) (Hardware (recordByte file k 1))
-    (pick (eqb (kindOf file k) conditionKind) (Condition (recordByte file k 1) (recordByte file k 2))
-    (Sample (recordByte file k 1) (recordByte file k 2 * 256 + recordByte file k 3))))))
+unfoldable pub callOf : Bytes → Call
+callOf bytes =
+    pick (eqb (kindOf bytes) writeKind) (Write (getD bytes 1 0) (getD bytes 2 0))
+    (pick (eqb (kindOf bytes) readKind) (Read (getD bytes 1 0) (getD bytes 2 0))
+    (pick (eqb (kindOf bytes) workKind) (Work (getD bytes 1 0))
+    (pick (eqb (kindOf bytes) hardwareKind) (Hardware (getD bytes 1 0))
+    (pick (eqb (kindOf bytes) conditionKind) (Condition (getD bytes 1 0) (getD bytes 2 0))
+    (Sample (getD bytes 1 0) (getD bytes 2 0 * 256 + getD bytes 3 0))))))
 
-unfoldable pub eventAt : Bytes → RecordIndex → Event
-eventAt file k = record { call = callAt file k; bytes = tab dataLimit (λ j. recordByte file k (dataStart + j)) }
+unfoldable pub eventOf : Bytes → Event
+eventOf bytes = record { call = callOf bytes; bytes = tab dataLimit (λ j. getD bytes (dataStart + j) 0) }
+
+-- ---- the whole file: the header, the image, the records
+
+-- the header may count 5,000 records
+abbrev pub recordLimit : Count
+recordLimit = 5000
+
+unfoldable pub isWholeLength : Bytes → Bool
+isWholeLength file = eqb (length file) (recordsOffset (editionOf file) + recordLength * recordCount file)
+
+unfoldable pub imageIn : Bytes → Image
+imageIn file = take (editionOf file .imageBytes) (drop imageOffset file)
+
+-- where record k begins
+abbrev pub recordStart : Bytes → RecordIndex → Count
+recordStart file k = recordsOffset (editionOf file) + recordLength * k
+
+unfoldable pub recordIn : Bytes → RecordIndex → Bytes
+recordIn file k = take recordLength (drop (recordStart file k) file)
 
 unfoldable pub eventsIn : Bytes → List Event
-eventsIn file = tab (recordCount file) (eventAt file)
+eventsIn file = tab (recordCount file) (λ k. eventOf (recordIn file k))
+
+unfoldable pub isWellFormed : Count → Bytes → Bool
+isWellFormed limit file =
+    both (both (isHeader limit file) (isWholeLength file)) (allBelow (recordCount file) (λ k. isRecord (editionOf file) (recordIn file k)))
 
 -- ---- the check of the whole file: malformed first, then what start answers to its image
-
-unfoldable pub isWellFormed : Bytes → Bool
-isWellFormed file = both (both (isHeader file) (isWholeLength file)) (allBelow (recordCount file) (isRecord file))
 
 unfoldable pub fileCheckBy : Answer → Bytes → FileCheck
 fileCheckBy a file = pick (isDone a) (Good (recordCount file)) (Refused a)
 
-unfoldable pub fileCheck : Bytes → FileCheck
-fileCheck file = pick (isWellFormed file) (fileCheckBy (firstOf (startRefusals (imageIn file))) file) (Refused Malformed)
+unfoldable pub fileCheckUpTo : Count → Bytes → FileCheck
+fileCheckUpTo limit file = pick (isWellFormed limit file) (fileCheckBy (firstOf (startRefusals (imageIn file))) file) (Refused Malformed)
+
+abbrev pub fileCheck : Bytes → FileCheck
+fileCheck file = fileCheckUpTo recordLimit file

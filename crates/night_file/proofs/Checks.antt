@@ -2,11 +2,11 @@
 use mathlib.Core.Path.{_≡_, refl, sym, ap, _∙_}
 use mathlib.Core.Bool.{Bool, true, false, _&&_}
 use mathlib.Core.List.{List}
-use Prim.Native.Nat.{ℕ, _+_, _*_, _≤_, _<_}
+use Prim.Native.Nat.{ℕ, _+_, _-_, _*_, _≤_, _<_}
 use native.Mathlib.Numerals.{add-one}
 use native.Mathlib.Omega.{arith}
 use lib.Dec.{eqb, leb, ltb}
-use lib.ListN.{length}
+use lib.ListN.{length, getD, take, drop}
 use lib.Bits.{bitOr}
 use borrow.Author.Tests.{eqb-true, le-leb, lt-leb, eq-eqb, ne-eqb}
 use Rattle.bits.specs.Choice.{both, implies}
@@ -16,7 +16,7 @@ use Rattle.bits.proofs.Number.{or-none}
 use Rattle.bits.proofs.Loops.{all-at}
 use Rattle.model.specs.Answers.{number, isDone}
 use Rattle.model.specs.Refusals.{firstOf, startRefusals}
-use Rattle.model.specs.File.{recordCount, isHeader, isWholeLength, imageIn, recordByte, usedBytes, isRecord, isWellFormed, fileCheckBy, fileCheck, recordsOffset, recordLength}
+use Rattle.model.specs.File.{Edition, firstEdition, recordCount, isHeader, isWholeLength, imageIn, recordStart, recordIn, usedBytes, isRecord, isWellFormed, fileCheckBy, fileCheckUpTo, recordsOffset, recordLength}
 use Rattle.model.specs.declared.answer.Answer.{Answer}
 use Rattle.model.specs.declared.answer.Answer.the-variants.{Malformed}
 use Rattle.model.specs.declared.file.FileCheck.the-variants.{Refused, Good}
@@ -49,54 +49,69 @@ pub all-fails : (n k : ℕ) (p : ℕ → Bool) → k < n → p k ≡ false → a
 all-fails n k p h e = split (allBelow n p) (λ a. absurd (clash (all-at n p a k h) e)) (λ a. a)
 
 -- ---- the frame
-pub short-frame : (file : List ℕ) → length file < recordsOffset → both (isHeader file) (isWholeLength file) ≡ false
+pub short-frame : (limit : ℕ) (file : List ℕ) → length file < recordsOffset firstEdition → both (isHeader limit file) (isWholeLength file) ≡ false
 unfolding isWholeLength
-short-frame file h = both-right _ _ (ne-eqb (length file) (recordsOffset + recordLength * recordCount file) (omega arith))
+short-frame limit file h = both-right _ _ (ne-eqb (length file) (recordsOffset firstEdition + recordLength * recordCount file) (omega arith))
 
-pub framed-length : (file : List ℕ) → both (isHeader file) (isWholeLength file) ≡ true → length file ≡ recordsOffset + recordLength * recordCount file
+pub framed-length : (limit : ℕ) (file : List ℕ) → both (isHeader limit file) (isWholeLength file) ≡ true → length file ≡ recordsOffset firstEdition + recordLength * recordCount file
 unfolding isWholeLength
-framed-length file e = eqb-true _ _ (both-r _ _ e)
+framed-length limit file e = eqb-true _ _ (both-r _ _ e)
 
--- ---- records
--- byte j of record k is 0 if it is not used
-abbrev pub isClear : List ℕ → ℕ → ℕ → Bool
-isClear file k j = implies (leb (usedBytes file k) j) (eqb (recordByte file k j) 0)
+-- ---- the records of a file
+-- whether record k is one
+abbrev pub isRecordIn : List ℕ → ℕ → Bool
+isRecordIn file k = isRecord firstEdition (recordIn file k)
 
-module _ (file : List ℕ) (k : ℕ) where
+-- record k as the part of the file that is lent
+pub part-record : (file : List ℕ) (k : ℕ) → take (recordStart file k + recordLength - recordStart file k) (drop (recordStart file k) file) ≡ recordIn file k
+unfolding recordIn
+part-record file k = let e : recordStart file k + recordLength - recordStart file k ≡ recordLength = omega arith in rw e
+
+-- ---- one record
+module _ (e : Edition) (bytes : List ℕ) where
+  -- byte j is 0 if it is not used
+  abbrev pub isClear : ℕ → Bool
+  isClear j = implies (leb (usedBytes (e .forms) bytes) j) (eqb (getD bytes j 0) 0)
+
   -- the bytes that are not used, gathered: 0 exactly while each of them is
-  pub clear-begin : eqb 0 0 ≡ allBelow 0 (isClear file k)
+  pub clear-begin : eqb 0 0 ≡ allBelow 0 isClear
   unfolding allBelow
   clear-begin = refl
 
-  pub clear-more : (j rest : ℕ) → eqb rest 0 ≡ allBelow j (isClear file k) → usedBytes file k ≤ j
-      → eqb (bitOr rest (recordByte file k j)) 0 ≡ allBelow (j + 1) (isClear file k)
+  pub clear-more : (j rest : ℕ) → eqb rest 0 ≡ allBelow j isClear → usedBytes (e .forms) bytes ≤ j → eqb (bitOr rest (getD bytes j 0)) 0 ≡ allBelow (j + 1) isClear
   unfolding allBelow implies
-  clear-more j rest h u = rw (add-one, or-none rest (recordByte file k j), h, le-leb _ _ u, implies)
+  clear-more j rest h u = rw (add-one, or-none rest (getD bytes j 0), h, le-leb _ _ u, implies)
 
-  pub clear-used : (j rest : ℕ) → eqb rest 0 ≡ allBelow j (isClear file k) → j < usedBytes file k → eqb rest 0 ≡ allBelow (j + 1) (isClear file k)
+  pub clear-used : (j rest : ℕ) → eqb rest 0 ≡ allBelow j isClear → j < usedBytes (e .forms) bytes → eqb rest 0 ≡ allBelow (j + 1) isClear
   unfolding allBelow implies
   clear-used j rest h u = rw (add-one, h, lt-leb _ _ u, implies) (sym (both-true _))
 
-  pub record-by : (used rest : ℕ) → used ≡ usedBytes file k → eqb rest 0 ≡ allBelow recordLength (isClear file k) → (ltb 0 used && eqb rest 0) ≡ isRecord file k
+  pub record-by : (used rest : ℕ) → used ≡ usedBytes (e .forms) bytes → eqb rest 0 ≡ allBelow recordLength isClear → (ltb 0 used && eqb rest 0) ≡ isRecord e bytes
   unfolding isRecord
-  record-by used rest e h = joined (ap (ltb 0) e) h
+  record-by used rest u h = joined (ap (ltb 0) u) h
 
 -- ---- what the check finds
-module _ (file : List ℕ) where
-  pub finds-no-frame : both (isHeader file) (isWholeLength file) ≡ false → fileCheck file ≡ Refused Malformed
-  unfolding fileCheck isWellFormed
+module _ (limit : ℕ) (file : List ℕ) where
+  pub finds-no-frame : both (isHeader limit file) (isWholeLength file) ≡ false → fileCheckUpTo limit file ≡ Refused Malformed
+  unfolding fileCheckUpTo isWellFormed
   finds-no-frame e = pick-false _ _ (both-left _ _ e)
 
-  pub finds-no-record : allBelow (recordCount file) (isRecord file) ≡ false → fileCheck file ≡ Refused Malformed
-  unfolding fileCheck isWellFormed
-  finds-no-record e = pick-false _ _ (both-right _ _ e)
+  module _ (count : ℕ) (counted : count ≡ recordCount file) where
+    pub finds-no-record : allBelow count (isRecordIn file) ≡ false → fileCheckUpTo limit file ≡ Refused Malformed
+    unfolding fileCheckUpTo isWellFormed
+    finds-no-record r = pick-false _ _ (both-right _ _ (rw (← counted) r))
 
-  module _ (f : both (isHeader file) (isWholeLength file) ≡ true) (r : allBelow (recordCount file) (isRecord file) ≡ true) where
     -- the answer of start, by its number
-    pub finds-refused : (a : Answer) (n : ℕ) → a ≡ firstOf (startRefusals (imageIn file)) → n ≡ number a → (n ≡ 0 → ⊥) → fileCheck file ≡ Refused a
-    unfolding fileCheck isWellFormed fileCheckBy isDone
-    finds-refused a n e p h = rw (← e) (pick-true _ _ (both-i f r) ∙ pick-false _ _ (rw (← p) (ne-eqb n 0 h)))
+    module _ (f : both (isHeader limit file) (isWholeLength file) ≡ true) (r : allBelow count (isRecordIn file) ≡ true) (a : Answer) (n : ℕ)
+        (e : a ≡ firstOf (startRefusals (imageIn file))) (p : n ≡ number a) where
+      well-formed : isWellFormed limit file ≡ true
+      unfolding isWellFormed
+      well-formed = both-i f (rw (← counted) r)
 
-    pub finds-good : (a : Answer) (n : ℕ) → a ≡ firstOf (startRefusals (imageIn file)) → n ≡ number a → n ≡ 0 → fileCheck file ≡ Good (recordCount file)
-    unfolding fileCheck isWellFormed fileCheckBy isDone
-    finds-good a n e p h = rw (← e) (pick-true _ _ (both-i f r) ∙ pick-true _ _ (rw (← p) (eq-eqb n 0 h)))
+      pub finds-refused : (n ≡ 0 → ⊥) → fileCheckUpTo limit file ≡ Refused a
+      unfolding fileCheckUpTo fileCheckBy isDone
+      finds-refused h = rw (← e) (pick-true _ _ well-formed ∙ pick-false _ _ (rw (← p) (ne-eqb n 0 h)))
+
+      pub finds-good : n ≡ 0 → fileCheckUpTo limit file ≡ Good count
+      unfolding fileCheckUpTo fileCheckBy isDone
+      finds-good h = rw (← e, counted) (pick-true _ _ well-formed ∙ pick-true _ _ (rw (← p) (eq-eqb n 0 h)))

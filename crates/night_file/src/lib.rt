@@ -1,11 +1,11 @@
-// Night files: the check of a whole file, and the event of each of its records.
+// Night files: header, records, the check of a whole file, and the event of each of its records.
 ghost use mathlib.Core.Path.{_≡_};
 ghost use Prim.Native.Nat.{_+_, _*_, _≤_, _<_};
 ghost use lib.ListN.{length};
 ghost use lib.Dec.{ltb};
 ghost use Rattle.bits.specs.Choice.{pick, both};
 ghost use Rattle.bits.specs.Loop.{allBelow};
-ghost use Rattle.model.specs.File.{isHeader, isWholeLength, recordByte, usedBytes, isRecord, callAt, eventAt, fileCheck, recordsOffset, recordEnd, recordLength};
+ghost use Rattle.model.specs.File.{firstEdition, isHeader, isWholeLength, recordCount, usedBytes, isRecord, callOf, eventOf, recordIn, fileCheck, imageOffset, recordsOffset, recordLimit, recordLength};
 use model::answer::Answer;
 use model::event::Call;
 use model::event::Event;
@@ -22,9 +22,9 @@ const COUNT_AT: usize = 4;
 
 pub const IMAGE_OFFSET: usize = 16;
 
-const RECORDS_OFFSET: usize = IMAGE_OFFSET + map::IMAGE_LENGTH;
+pub const RECORDS_OFFSET: usize = IMAGE_OFFSET + map::IMAGE_LENGTH;
 
-const RECORD_LENGTH: usize = 12;
+pub const RECORD_LENGTH: usize = 12;
 
 const RECORD_LIMIT: u32 = 5000;
 
@@ -43,40 +43,39 @@ const SAMPLE: u8 = 6;
 
 const DATA_LIMIT: u8 = 8;
 
-// Whether the header is as it must be, in a file that is long enough for it and an image.
-fn is_header(file: &[u8]) -> bool
-    requires { ⌜ recordsOffset ≤ length (now file) ⌝ }
-    ensures { λ r. ⌜ r ≡ isHeader (now (file .entry)) ⌝ }
+// How many records a header counts.
+fn record_count(header: &[u8]) -> u32
+    requires { ⌜ imageOffset ≤ length (now header) ⌝ }
+    ensures { λ r. ⌜ r ≡ recordCount (now (header .entry)) ⌝ }
 {
-    let letters = (file[0] == LETTER_W) & (file[1] == LETTER_L);
-    let edition = (file[2] == EDITION) & (file[3] == 0);
-    let count = bits_words::word4(file, COUNT_AT);
-    let image_at = bits_words::word4(file, 8) as usize;
-    let records_at = bits_words::word4(file, 12) as usize;
+    bits_words::word4(header, COUNT_AT)
+}
+
+// Whether a header is as it must be, with no more records than a limit.
+fn is_header(header: &[u8], limit: u32) -> bool
+    requires { ⌜ imageOffset ≤ length (now header) ⌝ }
+    ensures { λ r. ⌜ r ≡ isHeader limit (now (header .entry)) ⌝ }
+{
+    let letters = (header[0] == LETTER_W) & (header[1] == LETTER_L);
+    let edition = (header[2] == EDITION) & (header[3] == 0);
+    let count = record_count(header);
+    let image_at = bits_words::word4(header, 8) as usize;
+    let records_at = bits_words::word4(header, 12) as usize;
     letters
         & (edition
-            & ((count <= RECORD_LIMIT)
-                & ((image_at == IMAGE_OFFSET) & (records_at == RECORDS_OFFSET))))
+            & ((count <= limit) & ((image_at == IMAGE_OFFSET) & (records_at == RECORDS_OFFSET))))
 }
 
 // Whether the header and the length of a file are right.
 fn is_framed(file: &[u8]) -> bool
-    ensures { λ r. ⌜ r ≡ both (isHeader (now (file .entry))) (isWholeLength (now (file .entry))) ⌝ }
+    ensures { λ r. ⌜ r ≡ both (isHeader recordLimit (now (file .entry))) (isWholeLength (now (file .entry))) ⌝ }
 {
     if file.len() < RECORDS_OFFSET {
         return false;
     }
-    let count = bits_words::word4(file, COUNT_AT) as usize;
+    let count = record_count(file) as usize;
     let whole = file.len() == RECORDS_OFFSET + RECORD_LENGTH * count;
-    is_header(file) & whole
-}
-
-// Byte j of record k.
-fn record_byte(file: &[u8], k: u32, j: usize) -> u8
-    requires { ⌜ (recordEnd k ≤ length (now file)) × (j < recordLength) ⌝ }
-    ensures { λ r. ⌜ r ≡ recordByte (now (file .entry)) k j ⌝ }
-{
-    file[RECORDS_OFFSET + RECORD_LENGTH * (k as usize) + j]
+    is_header(file, RECORD_LIMIT) & whole
 }
 
 // How many bytes of a record are data, of the count that a write names.
@@ -90,12 +89,12 @@ fn data_bytes(count: u8) -> usize
 }
 
 // How many of a record's bytes its kind uses; none for a kind that is not listed.
-fn used_bytes(file: &[u8], k: u32) -> usize
-    requires { ⌜ recordEnd k ≤ length (now file) ⌝ }
-    ensures { λ r. ⌜ r ≡ usedBytes (now (file .entry)) k ⌝ }
+fn used_bytes(bytes: &[u8]) -> usize
+    requires { ⌜ recordLength ≤ length (now bytes) ⌝ }
+    ensures { λ r. ⌜ r ≡ usedBytes (firstEdition .forms) (now (bytes .entry)) ⌝ }
 {
-    match record_byte(file, k, 0) {
-        WRITE => 3 + data_bytes(record_byte(file, k, 2)),
+    match bytes[0] {
+        WRITE => 3 + data_bytes(bytes[2]),
         READ => 3,
         WORK => 2,
         HARDWARE => 2,
@@ -106,27 +105,28 @@ fn used_bytes(file: &[u8], k: u32) -> usize
 }
 
 // Whether a record is of a listed kind, with zeros in the bytes that it does not use: those are gathered in one byte, without a branch that depends on them.
-fn is_record(file: &[u8], k: u32) -> bool
-    requires { ⌜ recordEnd k ≤ length (now file) ⌝ }
-    ensures { λ r. ⌜ r ≡ isRecord (now (file .entry)) k ⌝ }
+fn is_record(bytes: &[u8]) -> bool
+    requires { ⌜ recordLength ≤ length (now bytes) ⌝ }
+    ensures { λ r. ⌜ r ≡ isRecord firstEdition (now (bytes .entry)) ⌝ }
 {
-    let used = used_bytes(file, k);
+    let used = used_bytes(bytes);
     let mut rest = 0u8;
     for j in 0..RECORD_LENGTH {
         if used <= j {
-            rest = rest | record_byte(file, k, j);
+            rest = rest | bytes[j];
         }
     }
     (0 < used) & (rest == 0)
 }
 
-// Whether every record is one.
+// Whether every record of a file is one.
 fn are_records(file: &[u8], count: u32) -> bool
-    requires { ⌜ recordsOffset + recordLength * count ≤ length (now file) ⌝ }
-    ensures { λ r. ⌜ r ≡ allBelow count (isRecord (now (file .entry))) ⌝ }
+    requires { ⌜ recordsOffset firstEdition + recordLength * count ≤ length (now file) ⌝ }
+    ensures { λ r. ⌜ r ≡ allBelow count (λ k. isRecord firstEdition (recordIn (now (file .entry)) k)) ⌝ }
 {
     for k in 0..count {
-        if !is_record(file, k) {
+        let at = RECORDS_OFFSET + RECORD_LENGTH * (k as usize);
+        if !is_record(&file[at..at + RECORD_LENGTH]) {
             return false;
         }
     }
@@ -140,7 +140,7 @@ pub fn check(file: &[u8]) -> FileCheck
     if !is_framed(file) {
         return FileCheck::Refused(Answer::Malformed);
     }
-    let count = bits_words::word4(file, COUNT_AT);
+    let count = record_count(file);
     if !are_records(file, count) {
         return FileCheck::Refused(Answer::Malformed);
     }
@@ -152,13 +152,13 @@ pub fn check(file: &[u8]) -> FileCheck
 }
 
 // The call of a record.
-fn call_at(file: &[u8], k: u32) -> Call
-    requires { ⌜ recordEnd k ≤ length (now file) ⌝ }
-    ensures { λ r. ⌜ r ≡ callAt (now (file .entry)) k ⌝ }
+fn call_of(bytes: &[u8]) -> Call
+    requires { ⌜ recordLength ≤ length (now bytes) ⌝ }
+    ensures { λ r. ⌜ r ≡ callOf (now (bytes .entry)) ⌝ }
 {
-    let first = record_byte(file, k, 1);
-    let second = record_byte(file, k, 2);
-    match record_byte(file, k, 0) {
+    let first = bytes[1];
+    let second = bytes[2];
+    match bytes[0] {
         WRITE => Call::Write {
             address: first,
             count: second,
@@ -175,27 +175,26 @@ fn call_at(file: &[u8], k: u32) -> Call
         },
         _ => Call::Sample {
             lane: first,
-            power: (second as u16) * 256 + (record_byte(file, k, 3) as u16),
+            power: (second as u16) * 256 + (bytes[3] as u16),
         },
     }
 }
 
 // The event of a record.
-pub fn event_at(file: &[u8], k: u32) -> Event
-    requires { ⌜ recordEnd k ≤ length (now file) ⌝ }
-    ensures { λ r. ⌜ r ≡ eventAt (now (file .entry)) k ⌝ }
+pub fn event_of(bytes: &[u8]) -> Event
+    requires { ⌜ recordLength ≤ length (now bytes) ⌝ }
+    ensures { λ r. ⌜ r ≡ eventOf (now (bytes .entry)) ⌝ }
 {
-    let call = call_at(file, k);
-    let at = RECORDS_OFFSET + RECORD_LENGTH * (k as usize);
-    let bytes = [
-        file[at + 3],
-        file[at + 4],
-        file[at + 5],
-        file[at + 6],
-        file[at + 7],
-        file[at + 8],
-        file[at + 9],
-        file[at + 10],
+    let call = call_of(bytes);
+    let data = [
+        bytes[3],
+        bytes[4],
+        bytes[5],
+        bytes[6],
+        bytes[7],
+        bytes[8],
+        bytes[9],
+        bytes[10],
     ];
-    Event { call, bytes }
+    Event { call, bytes: data }
 }

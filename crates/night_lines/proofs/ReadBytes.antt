@@ -2,14 +2,13 @@
 use mathlib.Core.Path.{_≡_, refl, sym, ap, _∙_}
 use mathlib.Core.Bool.{Bool, true, false}
 use mathlib.Core.List.{List, [], _∷_}
-use Prim.Native.Nat.{ℕ, _≤_, _<_}
+use Prim.Native.Nat.{ℕ, _+_, _≤_, _<_}
 use native.Mathlib.Omega.{arith}
 use lib.Dec.{ltb}
 use lib.ListN.{length, take, drop}
 use lib.Seq.{take-at}
 use borrow.Author.Tests.{ltb-false}
 use Rattle.night_text.specs.Buffer.{lineRoom}
-use Rattle.model.specs.File.{recordLimit}
 use Rattle.bits.specs.Choice.{pick}
 use Rattle.bits.proofs.Tests.{split, clash, either-l, either-r, pick-true, pick-false}
 use Rattle.bits.proofs.Loops.{length-tab}
@@ -21,7 +20,7 @@ use Rattle.model.specs.Access.{takenBytes, isBadAccess, readLimit}
 use Rattle.model.specs.Refusals.{Refusal, refuse, firstOf, eventRefusals}
 use Rattle.model.specs.Step.{readEffect, eventEffect, doneStep, refusedStep, answeredStep, step}
 use Rattle.model.specs.Outcome.{laidOver, listRoom}
-use Rattle.model.specs.Text.{line}
+use Rattle.model.specs.Text.{decimal, line}
 use Rattle.model.specs.Records.{stageAt}
 use Rattle.model.specs.declared.answer.Answer.{Answer}
 use Rattle.model.specs.declared.answer.Answer.the-variants.{Done, WrongLength, FlatMemory, Unsound, BadAccess, ShortBuffer, NothingOnLane, Busy, NoSuchTarget, Malformed, BackToFront}
@@ -142,6 +141,10 @@ number-lt NoSuchTarget = omega arith
 number-lt Malformed = omega arith
 number-lt BackToFront = omega arith
 
+-- how long the line of a step is at most
+pub line-fits : (s : State) (e : Event) (k : ℕ) → length (line k (number (step early listRoom s e .answer)) (step early listRoom s e .bytes)) ≤ lineRoom (length (decimal k))
+line-fits s e k = line-most k _ _ (step-digit listRoom s e) (step-most listRoom s e)
+
 -- the line of a step, from what it left: its answer's number, and the first bytes of its buffer
 module _ (s : State) (e : Event) (a n : ℕ) (buffer left : List ℕ) (buffered : left ≡ laidOver (step early listRoom s e .bytes) buffer)
     (numbered : a ≡ number (step early listRoom s e .answer)) (counted : n ≡ shownBy a (e .call)) where
@@ -151,10 +154,11 @@ module _ (s : State) (e : Event) (a n : ℕ) (buffer left : List ℕ) (buffered 
   pub shown-most : n ≤ 128
   shown-most = rw shown-count (step-most listRoom s e)
 
-  pub shown-line : (k : ℕ) → line k a (take n left) ≡ line k (number (step early listRoom s e .answer)) (step early listRoom s e .bytes)
-  unfolding laidOver
-  shown-line k = rw (buffered, take-at (step early listRoom s e .bytes) (drop (length (step early listRoom s e .bytes)) buffer) n (sym shown-count), numbered)
+  module _ (k : ℕ) where
+    pub shown-line : line k a (take n left) ≡ line k (number (step early listRoom s e .answer)) (step early listRoom s e .bytes)
+    unfolding laidOver
+    shown-line = rw (buffered, take-at (step early listRoom s e .bytes) (drop (length (step early listRoom s e .bytes)) buffer) n (sym shown-count), numbered)
 
--- and how long it is at most
-pub line-fits : (s : State) (e : Event) (k : ℕ) → k < recordLimit → length (line k (number (step early listRoom s e .answer)) (step early listRoom s e .bytes)) ≤ lineRoom
-line-fits s e k h = line-most k _ _ (omega arith) (step-digit listRoom s e) (step-most listRoom s e)
+    -- it fits where the longest line of its index does
+    pub shown-fits : (at room : ℕ) → at + lineRoom (length (decimal k)) ≤ room → at + length (line k a (take n left)) ≤ room
+    shown-fits at room h = rw shown-line (omega (arith, line-fits s e k))

@@ -6,9 +6,10 @@ ghost use Rattle.model.specs.Work.{early};
 ghost use Rattle.model.specs.Step.{step};
 ghost use Rattle.model.specs.State.{stateWith};
 ghost use Rattle.model.specs.Outcome.{listRoom};
-ghost use Rattle.model.specs.File.{eventAt, recordEnd, recordLimit};
+ghost use Rattle.model.specs.File.{eventOf, recordLength};
 ghost use Rattle.night_lines.specs.Lines.{shownBy, Turns};
 ghost use Rattle.model.specs.Map.{imageLength};
+ghost use Rattle.model.specs.Text.{decimal};
 ghost use Rattle.night_text.specs.Buffer.{lineRoom};
 ghost use Rattle.model.specs.Access.{readLimit};
 use model::event::Call;
@@ -45,14 +46,14 @@ pub fn turn(
     image: &mut [u8],
     reached: Reached,
     buffer: &mut [u8],
-    file: &[u8],
-    k: u32,
+    bytes: &[u8],
+    index: u32,
     out: &mut [u8],
 ) -> Reached
-    requires { ⌜ (length (now image) ≡ imageLength) × (length (now buffer) ≡ readLimit) × (recordEnd k ≤ length (now file)) × (k < recordLimit) × (reached .at + lineRoom ≤ length (now out)) ⌝ }
-    ensures { λ r. ⌜ Turns (step early listRoom (stateWith (now (image .entry)) (reached .working)) (eventAt (now (file .entry)) k)) k (reached .at) (now (buffer .entry)) (now (buffer .exit)) (now (out .entry)) (now (out .exit)) (now (image .exit)) r ⌝ }
+    requires { ⌜ (length (now image) ≡ imageLength) × (length (now buffer) ≡ readLimit) × (recordLength ≤ length (now bytes)) × (reached .at + lineRoom (length (decimal index)) ≤ length (now out)) ⌝ }
+    ensures { λ r. ⌜ Turns (step early listRoom (stateWith (now (image .entry)) (reached .working)) (eventOf (now (bytes .entry)))) index (reached .at) (now (buffer .entry)) (now (buffer .exit)) (now (out .entry)) (now (out .exit)) (now (image .exit)) r ⌝ }
 {
-    let event = night_file::event_at(file, k);
+    let event = night_file::event_of(bytes);
     let call = event.call;
     let at = reached.at;
     let left = step::step(image, reached.working, event, buffer);
@@ -60,6 +61,6 @@ pub fn turn(
     let answer = left.answer;
     let number = answer.number();
     let count = shown(number, call);
-    let at = night_text::put_line(out, at, k, number, buffer, count);
+    let at = night_text::put_line(out, at, index, number, buffer, count);
     Reached { at, working }
 }

@@ -12,9 +12,9 @@ use Rattle.model.specs.Refusals.{firstOf, startRefusals}
 use Rattle.model.specs.Start.{startedState}
 use Rattle.model.specs.Records.{idleWorking}
 use Rattle.model.specs.State.{stateWith}
-use Rattle.model.specs.File.{recordCount, isHeader, imageIn, eventsIn, isWellFormed, fileCheckBy, fileCheck, recordsOffset, recordLength, recordLimit}
+use Rattle.model.specs.File.{firstEdition, recordCount, isHeader, imageIn, eventsIn, isWellFormed, fileCheckBy, fileCheckUpTo, fileCheck, recordsOffset, recordLength, recordLimit}
 use Rattle.model.specs.Text.{badLine}
-use Rattle.model.specs.Night.{nightOf, printedTextBy, printedText}
+use Rattle.model.specs.Night.{nightOf, printedTextBy, printedUpTo, printedText}
 use Rattle.model.specs.declared.answer.Answer.{Answer}
 use Rattle.model.specs.declared.file.FileCheck.the-variants.{Refused, Good}
 use Rattle.night_file.proofs.Checks.{framed-length}
@@ -22,26 +22,26 @@ use Rattle.night_replay.specs.Replay.{textAfter}
 
 -- a good file has its whole length, and its count is its header's
 pub record IsGood (file : List ℕ) (count : ℕ) : Type 0 where
-  pub whole : length file ≡ recordsOffset + recordLength * count
+  pub whole : length file ≡ recordsOffset firstEdition + recordLength * count
   pub few : count ≤ recordLimit
   pub counted : recordCount file ≡ count
 
-header-few : (file : List ℕ) → isHeader file ≡ true → recordCount file ≤ recordLimit
+header-few : (file : List ℕ) → isHeader recordLimit file ≡ true → recordCount file ≤ recordLimit
 unfolding isHeader
 header-few file h = leb-true _ _ (both-l _ _ (both-r _ _ (both-r _ _ h)))
 
-good-count : (file : List ℕ) (n : ℕ) → isWellFormed file ≡ true → recordCount file ≡ n → IsGood file n
+good-count : (file : List ℕ) (n : ℕ) → isWellFormed recordLimit file ≡ true → recordCount file ≡ n → IsGood file n
 unfolding isWellFormed
 good-count file n w e =
     record {
-      whole = rw (← e) (framed-length file (both-l _ _ w));
+      whole = rw (← e) (framed-length recordLimit file (both-l _ _ w));
       few = rw (← e) (header-few file (both-l _ _ (both-l _ _ w)));
       counted = e;
     }
 
 pub good-file : (file : List ℕ) (count : ℕ) → fileCheck file ≡ Good count → IsGood file count
-unfolding fileCheck fileCheckBy
-good-file file count g = split (isWellFormed file)
+unfolding fileCheckUpTo fileCheckBy
+good-file file count g = split (isWellFormed recordLimit file)
     (λ w. split (isDone (firstOf (startRefusals (imageIn file))))
     (λ f. let e = sym g ∙ pick-true _ _ w ∙ pick-true _ _ f in let q : recordCount file ≡ count = cc e in good-count file count w q)
     (λ f. let e = sym g ∙ pick-true _ _ w ∙ pick-false _ _ f in let z : _≡_ {A = ℕ} 0 1 = cc e in absurd (omega arith)))
@@ -50,9 +50,9 @@ good-file file count g = split (isWellFormed file)
 -- what is printed, by what the check found
 module _ (file : List ℕ) where
   pub prints-refused : (a : Answer) → fileCheck file ≡ Refused a → printedText file ≡ badLine (number a)
-  unfolding printedText printedTextBy
+  unfolding printedUpTo printedTextBy
   prints-refused a e = rw e
 
   pub prints-night : (count : ℕ) → fileCheck file ≡ Good count → printedText file ≡ textAfter (stateWith (startedState (imageIn file) .image) idleWorking) file count
-  unfolding printedText printedTextBy nightOf eventsIn textAfter startedState
+  unfolding printedUpTo printedTextBy nightOf eventsIn textAfter startedState
   prints-night count e = rw (e, good-file file count e .counted)

@@ -13,14 +13,15 @@ use Rattle.model.specs.State.{State, stateWith}
 use Rattle.model.specs.Work.{early}
 use Rattle.model.specs.Step.{Stepped, step, run, ending}
 use Rattle.model.specs.Outcome.{listRoom}
-use Rattle.model.specs.File.{eventAt, recordLimit}
+use Rattle.model.specs.File.{recordIn, eventOf, recordLimit}
 use Rattle.model.specs.Text.{line}
 use Rattle.model.specs.Night.{linesFrom}
 use Rattle.model.specs.declared.lane.Working.{Working}
 use Rattle.laws_list.proofs.Runs.{ending-snoc, run-snoc, length-run}
 use Rattle.night_text.specs.Buffer.{Puts, lineRoom}
 use Rattle.night_text.proofs.Laid.{laid-none, puts-then}
-use Rattle.night_replay.specs.Replay.{stateAfter, textAfter}
+use Rattle.night_text.proofs.Lines.{length-index}
+use Rattle.night_replay.specs.Replay.{eventIn, stateAfter, textAfter}
 use Rattle.night_lines.specs.Lines.{Turns}
 use Rattle.night_lines.specs.declared.Reached.{Reached}
 use Rattle.night_lines.proofs.ReadBytes.{line-fits}
@@ -50,30 +51,34 @@ text-none s file out = record { buffer = sym (laid-none 0 out); next = refl }
 -- the step of record k, and what it adds
 module _ (s : State) (file : List ℕ) (k : ℕ) where
   abbrev pub stepOf : Stepped
-  stepOf = step early listRoom (stateAfter s file k) (eventAt file k)
+  stepOf = step early listRoom (stateAfter s file k) (eventIn file k)
 
   pub state-next : stateAfter s file (k + 1) ≡ stepOf .state
   unfolding stateAfter
-  state-next = rw (add-one k, tab-snoc k (eventAt file)) (ending-snoc early listRoom s (tab k (eventAt file)) (eventAt file k))
+  state-next = rw (add-one k, tab-snoc k (eventIn file)) (ending-snoc early listRoom s (tab k (eventIn file)) (eventIn file k))
 
   pub text-next : textAfter s file (k + 1) ≡ textAfter s file k ++ line k (number (stepOf .answer)) (stepOf .bytes)
   unfolding stateAfter textAfter
   text-next =
       rw (
         add-one k,
-        tab-snoc k (eventAt file),
-        run-snoc early listRoom s (tab k (eventAt file)) (eventAt file k),
-        lines-snoc 0 (run early listRoom s (tab k (eventAt file))) (step early listRoom (ending early listRoom s (tab k (eventAt file))) (eventAt file k)),
-        length-run early listRoom s (tab k (eventAt file)),
-        length-tab k (eventAt file),
+        tab-snoc k (eventIn file),
+        run-snoc early listRoom s (tab k (eventIn file)) (eventIn file k),
+        lines-snoc 0 (run early listRoom s (tab k (eventIn file))) (step early listRoom (ending early listRoom s (tab k (eventIn file))) (eventIn file k)),
+        length-run early listRoom s (tab k (eventIn file)),
+        length-tab k (eventIn file),
         zero-add k,
       )
 
+  -- the room of its line: an index of a night has at most four digits
+  pub night-line-fits : k < recordLimit → length (line k (number (stepOf .answer)) (stepOf .bytes)) ≤ lineRoom 4
+  night-line-fits h = omega (arith, line-fits (stateAfter s file k) (eventIn file k) k, length-index k (omega arith))
+
   -- a turn of the loop over the records
-  module _ (image buffer bufferLeft out after left : List ℕ) (w : Working) (at : ℕ) (r : Reached)
-      (reached : stateWith image w ≡ stateAfter s file k) (turned : Turns (step early listRoom (stateWith image w) (eventAt file k)) k at buffer bufferLeft out after left r) where
+  module _ (image buffer bufferLeft bytes out after left : List ℕ) (w : Working) (at : ℕ) (r : Reached) (reached : stateWith image w ≡ stateAfter s file k)
+      (part : bytes ≡ recordIn file k) (turned : Turns (step early listRoom (stateWith image w) (eventOf bytes)) k at buffer bufferLeft out after left r) where
     turns : Turns stepOf k at buffer bufferLeft out after left r
-    turns = rw reached at turned
+    turns = rw (reached, part) at turned
 
     pub turn-state : stateWith left (r .working) ≡ stateAfter s file (k + 1)
     turn-state = (λ i. record { image = turns .registers i; working = turns .lanes i }) ∙ sym state-next
@@ -81,5 +86,5 @@ module _ (s : State) (file : List ℕ) (k : ℕ) where
     pub turn-text : (before : List ℕ) → at ≤ length before → Puts 0 (textAfter s file k) before out at → Puts 0 (textAfter s file (k + 1)) before after (r .at)
     turn-text before h p = rw text-next (puts-then h p (turns .text))
 
-    pub turn-room : k < recordLimit → r .at ≤ at + lineRoom
-    turn-room h = omega (arith, turns .text .next, line-fits (stateAfter s file k) (eventAt file k) k h)
+    pub turn-room : k < recordLimit → r .at ≤ at + lineRoom 4
+    turn-room h = omega (arith, turns .text .next, night-line-fits h)

@@ -10,26 +10,26 @@ use Rattle.bits.specs.Loop.{tab}
 use Rattle.model.specs.Answers.{number}
 use Rattle.model.specs.State.{State}
 use Rattle.model.specs.Step.{run}
-use Rattle.model.specs.File.{eventAt, fileCheck, recordLimit}
+use Rattle.model.specs.File.{fileCheck, recordLimit}
 use Rattle.model.specs.Text.{line}
 use Rattle.model.specs.Night.{linesFrom, printedText}
 use Rattle.model.specs.declared.file.FileCheck.{FileCheck}
 use Rattle.model.specs.declared.file.FileCheck.the-variants.{Refused, Good}
 use Rattle.night_text.proofs.Lines.{bad-most}
-use Rattle.night_replay.specs.Replay.{roomFor, stateAfter, textAfter}
+use Rattle.night_replay.specs.Replay.{roomFor, textAfter}
 use Rattle.night_replay.proofs.Files.{good-file, prints-refused, prints-night}
-use Rattle.night_lines.proofs.ReadBytes.{number-lt, line-fits}
-use Rattle.night_replay.proofs.Records.{stepOf, text-next}
+use Rattle.night_lines.proofs.ReadBytes.{number-lt}
+use Rattle.night_replay.proofs.Records.{stepOf, text-next, night-line-fits}
 
 -- 391 bytes a record
-text-fits : (s : State) (file : List ℕ) (k : ℕ) → k ≤ recordLimit → length (textAfter s file k) ≤ lineRoom * k
+text-fits : (s : State) (file : List ℕ) (k : ℕ) → k ≤ recordLimit → length (textAfter s file k) ≤ lineRoom 4 * k
 unfolding textAfter linesFrom run tab
 text-fits s file zero h = omega arith
 text-fits s file (suc k) h =
     let o = stepOf s file k in
     let e : length (textAfter s file (suc k)) ≡ _ =
     ap length (rw add-one at (text-next s file k)) ∙ length-append (textAfter s file k) (line k (number (o .answer)) (o .bytes)) in
-    omega (arith, text-fits s file k (omega arith), line-fits (stateAfter s file k) (eventAt file k) k (omega arith))
+    omega (arith, text-fits s file k (omega arith), night-line-fits s file k (omega arith))
 
 found-fits : (file : List ℕ) (found : FileCheck) → fileCheck file ≡ found → length (printedText file) ≤ roomFor found
 unfolding roomFor

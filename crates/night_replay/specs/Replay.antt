@@ -7,8 +7,9 @@ use Rattle.model.specs.State.{State}
 use Rattle.model.specs.Work.{early}
 use Rattle.model.specs.Step.{run, ending}
 use Rattle.model.specs.Outcome.{listRoom}
-use Rattle.model.specs.File.{eventAt}
+use Rattle.model.specs.File.{recordIn, eventOf}
 use Rattle.model.specs.Night.{linesFrom}
+use Rattle.model.specs.declared.event.Event.{Event}
 use Rattle.model.specs.declared.file.FileCheck.{FileCheck}
 use Rattle.model.specs.declared.file.FileCheck.the-variants.{Refused, Good}
 
@@ -20,13 +21,17 @@ badRoom = 7
 
 unfoldable pub roomFor : FileCheck → ℕ
 roomFor (Refused a) = badRoom
-roomFor (Good count) = lineRoom * count
+roomFor (Good count) = lineRoom 4 * count
 
 -- ---- on the way
 
+-- the event of record k of a file
+abbrev pub eventIn : List ℕ → ℕ → Event
+eventIn file k = eventOf (recordIn file k)
+
 -- the state after the first k records of a file, and the text of these
 unfoldable pub stateAfter : State → List ℕ → ℕ → State
-stateAfter s file k = ending early listRoom s (tab k (eventAt file))
+stateAfter s file k = ending early listRoom s (tab k (eventIn file))
 
 unfoldable pub textAfter : State → List ℕ → ℕ → List ℕ
-textAfter s file k = linesFrom 0 (run early listRoom s (tab k (eventAt file)))
+textAfter s file k = linesFrom 0 (run early listRoom s (tab k (eventIn file)))

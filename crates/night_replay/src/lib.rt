@@ -6,7 +6,7 @@ ghost use Rattle.model.specs.Answers.{number};
 ghost use Rattle.model.specs.Start.{startedState};
 ghost use Rattle.model.specs.Records.{idleWorking};
 ghost use Rattle.model.specs.State.{stateWith};
-ghost use Rattle.model.specs.File.{imageIn, fileCheck, recordsOffset, recordLength, recordLimit};
+ghost use Rattle.model.specs.File.{firstEdition, imageIn, fileCheck, recordsOffset, recordLength, recordLimit};
 ghost use Rattle.model.specs.Text.{badLine};
 ghost use Rattle.model.specs.Night.{printedText};
 ghost use Rattle.model.specs.declared.file.FileCheck.the-variants as found;
@@ -22,6 +22,8 @@ use model::answer::Answer;
 use model::file::FileCheck;
 use model::lane::Working;
 use night_file::IMAGE_OFFSET;
+use night_file::RECORD_LENGTH;
+use night_file::RECORDS_OFFSET;
 use night_lines::Reached;
 
 // The room that a record's line asks for, and a bad line.
@@ -34,7 +36,7 @@ const SHORT_BUFFER: usize = 18446744073709551615;
 
 // A file's image.
 fn copy_image(file: &[u8], image: &mut [u8])
-    requires { ⌜ (recordsOffset ≤ length (now file)) × (length (now image) ≡ imageLength) ⌝ }
+    requires { ⌜ (recordsOffset firstEdition ≤ length (now file)) × (length (now image) ≡ imageLength) ⌝ }
     ensures { λ _. ⌜ now (image .exit) ≡ imageIn (now (file .entry)) ⌝ }
 {
     for i in 0..IMAGE_LENGTH {
@@ -44,7 +46,7 @@ fn copy_image(file: &[u8], image: &mut [u8])
 
 // A file's image, as a module starts with it.
 fn start_image(file: &[u8], image: &mut [u8])
-    requires { ⌜ (recordsOffset ≤ length (now file)) × (length (now image) ≡ imageLength) ⌝ }
+    requires { ⌜ (recordsOffset firstEdition ≤ length (now file)) × (length (now image) ≡ imageLength) ⌝ }
     ensures { λ _. ⌜ now (image .exit) ≡ (startedState (imageIn (now (file .entry)))) .image ⌝ }
 {
     copy_image(file, image);
@@ -53,13 +55,21 @@ fn start_image(file: &[u8], image: &mut [u8])
 
 // The records of a file, each with its turn, from an image with all lanes idle.
 fn play(image: &mut [u8], buffer: &mut [u8], file: &[u8], count: u32, out: &mut [u8]) -> usize
-    requires { ⌜ (length (now image) ≡ imageLength) × (length (now buffer) ≡ readLimit) × (recordsOffset + recordLength * count ≤ length (now file)) × (count ≤ recordLimit) × (lineRoom * count ≤ length (now out)) ⌝ }
+    requires { ⌜ (length (now image) ≡ imageLength) × (length (now buffer) ≡ readLimit) × (recordsOffset firstEdition + recordLength * count ≤ length (now file)) × (count ≤ recordLimit) × (lineRoom 4 * count ≤ length (now out)) ⌝ }
     ensures { λ r. ⌜ Puts 0 (textAfter (stateWith (now (image .entry)) idleWorking) (now (file .entry)) count) (now (out .entry)) (now (out .exit)) r ⌝ }
 {
     let working = Working::idle();
     let mut reached = Reached { at: 0, working };
     for k in 0..count {
-        reached = night_lines::turn(image, reached, buffer, file, k, out);
+        let at = RECORDS_OFFSET + RECORD_LENGTH * (k as usize);
+        reached = night_lines::turn(
+            image,
+            reached,
+            buffer,
+            &file[at..at + RECORD_LENGTH],
+            k,
+            out,
+        );
     }
     reached.at
 }
@@ -67,7 +77,7 @@ fn play(image: &mut [u8], buffer: &mut [u8], file: &[u8], count: u32, out: &mut 
 // The text of a good file.
 fn print_good(file: &[u8], count: u32, out: &mut [u8]) -> Replayed
     requires { ⌜ fileCheck (now file) ≡ found.Good count ⌝ }
-    ensures { λ r. ⌜ Gives (lineRoom * count) (printedText (now (file .entry))) (now (out .entry)) (now (out .exit)) r ⌝ }
+    ensures { λ r. ⌜ Gives (lineRoom 4 * count) (printedText (now (file .entry))) (now (out .entry)) (now (out .exit)) r ⌝ }
 {
     if out.len() < LINE_ROOM * (count as usize) {
         return Replayed::ShortBuffer;

@@ -1,7 +1,7 @@
 -- Laws of the texts of bytes and lines: one byte more, and how long they are. Assumes nothing.
 use mathlib.Core.Path.{_≡_, refl, ap, _∙_}
 use mathlib.Core.List.{List, [], _∷_, _++_}
-use Prim.Native.Nat.{ℕ, _+_, _*_, _/_, _%_, _≤_, _<_}
+use Prim.Native.Nat.{ℕ, _+_, _*_, _/_, _%_, _^_, _≤_, _<_}
 use native.Mathlib.Omega.{arith}
 use native.Mathlib.Numerals.{add-one}
 use lib.ListN.{length, getD, take, length-append}
@@ -43,6 +43,11 @@ pub length-index : (k : ℕ) → k < 10000 → length (decimal k) ≤ 4
 unfolding decimal
 length-index k h = count-most 3 10 k h
 
+-- any index of 32 bits has at most ten
+pub length-any-index : (k : ℕ) → k < 2 ^ 32 → length (decimal k) ≤ 10
+unfolding decimal
+length-any-index k h = count-most 9 10 k (omega arith)
+
 pub length-line : (k a : ℕ) (bs : List ℕ) → length (line k a bs) ≡ length (decimal k) + length (decimal a) + 3 * length bs + 2
 unfolding line
 length-line k a bs = simp (length-append, length-hex) (omega arith)
@@ -52,9 +57,9 @@ pub line-parts : (k a : ℕ) (bs : List ℕ) → line k a bs ≡ decimal k ++ (s
 unfolding line
 line-parts k a bs = rw (append-snoc (decimal k) space (decimal a))
 
--- a line of a night: four digits, a space, a digit, 128 bytes and the line's end at most
-pub line-most : (k a : ℕ) (bs : List ℕ) → k < 10000 → a < 10 → length bs ≤ 128 → length (line k a bs) ≤ lineRoom
-line-most k a bs hk ha hb = omega (arith, length-line k a bs, length-index k hk, length-answer a ha)
+-- a record's line: its index, a space, a digit, 128 bytes and the line's end at most
+pub line-most : (k a : ℕ) (bs : List ℕ) → a < 10 → length bs ≤ 128 → length (line k a bs) ≤ lineRoom (length (decimal k))
+line-most k a bs ha hb = omega (arith, length-line k a bs, length-answer a ha)
 
 -- the room that a put of a line takes, part by part
 pub line-room : (k a n : ℕ) (bs : List ℕ) → n ≤ length bs → length (line k a (take n bs)) ≡ length (decimal k) + length (decimal a) + 3 * n + 2

@@ -13,6 +13,6 @@ pub record Puts (at : ℕ) (text before after : List ℕ) (r : ℕ) : Type 0 whe
   pub buffer : after ≡ laidAt at text before
   pub next : r ≡ at + length text
 
--- the longest line of a record: four digits, a space, a digit, 128 bytes of three characters each, the line's end
-abbrev pub lineRoom : ℕ
-lineRoom = 391
+-- the longest line of a record whose index has so many digits: these, a space, a digit, 128 bytes of three characters each, the line's end
+abbrev pub lineRoom : ℕ → ℕ
+lineRoom digits = digits + 387

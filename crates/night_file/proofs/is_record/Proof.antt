@@ -7,15 +7,15 @@ use lib.Dec.{eqb}
 use Rattle.bits.specs.Loop.{allBelow}
 use Rattle.night_file.proofs.Checks.{isClear, clear-begin, clear-more, clear-used, record-by}
 use borrow.Author.Needs.{needs}
-use Rattle.model.specs.File.{recordLength}
+use Rattle.model.specs.File.{firstEdition, recordLength}
 use Rattle.night_file.proofs.is_record.Statement.{statement}
 use Rattle.night_file.proofs.is_record.Tie as tie
 
 abbrev Inv-loop : tie.InvT-loop
-Inv-loop file k used rest₀ j₀ rest j = (j ≤ recordLength) × (eqb rest 0 ≡ allBelow j (isClear file k))
+Inv-loop bytes used rest₀ j₀ rest j = (j ≤ recordLength) × (eqb rest 0 ≡ allBelow j (isClear firstEdition bytes))
 
 abbrev μ-loop : tie.MeasureT-loop
-μ-loop file k used rest₀ j₀ rest j = recordLength - j
+μ-loop bytes used rest₀ j₀ rest j = recordLength - j
 
 loop-again : tie.Need-loop-again Inv-loop μ-loop
 loop-again c =
@@ -23,15 +23,15 @@ loop-again c =
     let l = c .before .before .loop in
     let used = c .before .before .before .used-bytes .ensures in
     ⊎-elim
-    (λ w. (omega arith, rw (w .2, w .1 .ensures) (clear-more (a .file .now) (a .k) (l .j) (l .rest) (l .inv .1) (rw used at (w .0 .taken)))))
-    (λ w. (omega arith, rw (w .1) (clear-used (a .file .now) (a .k) (l .j) (l .rest) (l .inv .1) (rw used at (w .0 .left)))))
+    (λ w. (omega arith, rw (w .2) (clear-more firstEdition (a .bytes .now) (l .j) (l .rest) (l .inv .1) (rw used at (w .0 .taken)))))
+    (λ w. (omega arith, rw (w .1) (clear-used firstEdition (a .bytes .now) (l .j) (l .rest) (l .inv .1) (rw used at (w .0 .left)))))
     (c .if1 .came)
 
 returns : tie.Need-returns Inv-loop μ-loop
 returns c =
     let e : c .before .loop .j ≡ recordLength = omega arith in
     let a = c .before .before .before .before .args in
-    record-by (a .file .now) (a .k) _ (c .before .loop .rest) (c .before .before .used-bytes .ensures) (rw e at (c .before .loop .inv .1))
+    record-by firstEdition (a .bytes .now) _ (c .before .loop .rest) (c .before .before .used-bytes .ensures) (rw e at (c .before .loop .inv .1))
 
 pub is-record-spec : {M : Type 1} → statement M
 is-record-spec =
@@ -40,8 +40,8 @@ is-record-spec =
     Inv-loop
     μ-loop
     (λ c κs. search needs)
-    (λ c. (search needs, clear-begin _ _))
-    (λ c κs. search needs)
+    (λ c. (search needs, clear-begin firstEdition _))
+    (λ c. search needs)
     (λ c. search needs)
     (λ c. search needs)
     loop-again

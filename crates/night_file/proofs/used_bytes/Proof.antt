@@ -1,7 +1,7 @@
 -- `night_file::used_bytes` meets its contract: each arm's kind picks its count. Assumes nothing.
 use borrow.Author.Tests.{ne-eqb}
 use Rattle.bits.specs.Choice.{pick}
-use Rattle.model.specs.File.{usedBytes}
+use Rattle.model.specs.File.{writtenBytes, usedBytes}
 use borrow.Author.Needs.{needs}
 use Rattle.night_file.proofs.used_bytes.Statement.{statement}
 use Rattle.night_file.proofs.used_bytes.Tie as tie
@@ -10,7 +10,6 @@ returns-7 : tie.Need-returns-7
 unfolding usedBytes pick
 returns-7 c =
     rw (
-      ← (c .before .record-byte .ensures),
       ne-eqb _ _ (c .match .rest .0 .0 .0 .0 .0 .1),
       ne-eqb _ _ (c .match .rest .0 .0 .0 .0 .1),
       ne-eqb _ _ (c .match .rest .0 .0 .0 .1),
@@ -20,18 +19,18 @@ returns-7 c =
     )
 
 pub used-bytes-spec : {M : Type 1} → statement M
-unfolding usedBytes pick
+unfolding usedBytes writtenBytes pick
 used-bytes-spec =
     tie.close
     (tie.spec
-    (λ c κs. search needs)
-    (λ c κs. search needs)
+    (λ c. search needs)
+    (λ c. search needs)
     (λ c κs. search needs)
     (λ c. search needs)
-    (λ c. rw (← (c .before .before .before .record-byte .ensures), c .before .before .match .keys1, ← (c .before .record-byte2 .ensures), c .data-bytes .ensures .0))
-    (λ c. rw (← (c .before .record-byte .ensures), c .match .keys2))
-    (λ c. rw (← (c .before .record-byte .ensures), c .match .keys3))
-    (λ c. rw (← (c .before .record-byte .ensures), c .match .keys4))
-    (λ c. rw (← (c .before .record-byte .ensures), c .match .keys5))
-    (λ c. rw (← (c .before .record-byte .ensures), c .match .keys6))
+    (λ c. rw (c .before .before .match .keys1, c .data-bytes .ensures .0))
+    (λ c. rw (c .match .keys2))
+    (λ c. rw (c .match .keys3))
+    (λ c. rw (c .match .keys4))
+    (λ c. rw (c .match .keys5))
+    (λ c. rw (c .match .keys6))
     returns-7)

@@ -10,11 +10,11 @@ use Rattle.model.specs.Step.{step}
 use Rattle.model.specs.State.{State, stateWith}
 use Rattle.model.specs.Outcome.{listRoom, stepOutcome}
 use Rattle.contracts.specs.Contracts.{IsOutcome}
-use Rattle.model.specs.File.{eventAt}
+use Rattle.model.specs.File.{eventOf}
 use Rattle.contracts.specs.declared.Returned.{Returned}
 use Rattle.model.specs.declared.event.Event.{Event}
 use Rattle.night_lines.specs.Lines.{shownBy}
-use Rattle.night_lines.proofs.ReadBytes.{shown-most, shown-line, line-fits}
+use Rattle.night_lines.proofs.ReadBytes.{shown-most, shown-line, shown-fits}
 use borrow.Author.Needs.{needs}
 use Rattle.model.specs.Access.{readLimit}
 use Rattle.night_lines.proofs.turn.Statement.{statement}
@@ -31,12 +31,12 @@ unfolding stepOutcome
 put-line-requires c κs =
     let a = c .before .before .before .before .before .before .before .before .before .before .before .before .before .before .before .before .before .args in
     let s = stateWith (a .image .now) (a .reached .working) in
-    let e = eventAt (a .file .now) (a .k) in
-    let l = stepped s _ e (a .buffer .now) (c .before .before .before .before .before .before .before .before .before .before .before .before .event-at .ensures) (omega arith) (c .before .before .before .before .before .before .before .before .before .step .ensures) in
+    let e = eventOf (a .bytes .now) in
+    let l = stepped s _ e (a .buffer .now) (c .before .before .before .before .before .before .before .before .before .before .before .before .event-of .ensures) (omega arith) (c .before .before .before .before .before .before .before .before .before .step .ensures) in
     let n = c .before .before .before .number .ensures ∙ ap number (l .answer) in
-    let m = c .before .before .shown .ensures ∙ ap (λ x. shownBy (c .before .before .before .number .result) (x .call)) (c .before .before .before .before .before .before .before .before .before .before .before .before .event-at .ensures) in (
+    let m = c .before .before .shown .ensures ∙ ap (λ x. shownBy (c .before .before .before .number .result) (x .call)) (c .before .before .before .before .before .before .before .before .before .before .before .before .event-of .ensures) in (
       omega (arith, shown-most s e _ _ _ _ (l .buffer) n m),
-      rw (shown-line s e _ _ _ _ (l .buffer) n m (a .k)) (omega (arith, line-fits s e (a .k) (omega arith))),
+      shown-fits s e _ _ _ _ (l .buffer) n m (a .index) (a .reached .at) (length (a .out .now)) (omega arith),
     )
 
 returns : tie.Need-returns
@@ -44,15 +44,15 @@ unfolding stepOutcome
 returns c =
     let a = c .before .before .before .before .before .before .before .before .before .before .before .before .before .before .before .before .before .before .before .before .args in
     let s = stateWith (a .image .now) (a .reached .working) in
-    let e = eventAt (a .file .now) (a .k) in
-    let l = stepped s _ e (a .buffer .now) (c .before .before .before .before .before .before .before .before .before .before .before .before .before .before .before .event-at .ensures) (omega arith) (c .before .before .before .before .before .before .before .before .before .before .before .before .step .ensures) in
+    let e = eventOf (a .bytes .now) in
+    let l = stepped s _ e (a .buffer .now) (c .before .before .before .before .before .before .before .before .before .before .before .before .before .before .before .event-of .ensures) (omega arith) (c .before .before .before .before .before .before .before .before .before .before .before .before .step .ensures) in
     let n = c .before .before .before .before .before .before .number .ensures ∙ ap number (l .answer) in
-    let m = c .before .before .before .before .before .shown .ensures ∙ ap (λ x. shownBy (c .before .before .before .before .before .before .number .result) (x .call)) (c .before .before .before .before .before .before .before .before .before .before .before .before .before .before .before .event-at .ensures) in
+    let m = c .before .before .before .before .before .shown .ensures ∙ ap (λ x. shownBy (c .before .before .before .before .before .before .number .result) (x .call)) (c .before .before .before .before .before .before .before .before .before .before .before .before .before .before .before .event-of .ensures) in
     record {
       registers = l .image;
       lanes = l .working;
       bytes = l .buffer;
-      text = rw (shown-line s e _ _ _ _ (l .buffer) n m (a .k)) at (c .before .before .put-line .ensures);
+      text = rw (shown-line s e _ _ _ _ (l .buffer) n m (a .index)) at (c .before .before .put-line .ensures);
     }
 
 pub turn-spec : {M : Type 1} → statement M

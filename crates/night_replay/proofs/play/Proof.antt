@@ -6,6 +6,8 @@ use lib.ListN.{length}
 use Rattle.model.specs.Records.{idleWorking}
 use Rattle.model.specs.State.{stateWith}
 use Rattle.night_text.specs.Buffer.{Puts, lineRoom}
+use Rattle.night_text.proofs.Lines.{length-index}
+use Rattle.night_file.proofs.Checks.{part-record}
 use Rattle.night_replay.specs.Replay.{stateAfter, textAfter}
 use Rattle.night_replay.proofs.Records.{state-none, text-none, turn-state, turn-text, turn-room}
 use borrow.Author.Needs.{needs}
@@ -16,7 +18,7 @@ use Rattle.night_replay.proofs.play.Tie as tie
 
 abbrev Inv-loop : tie.InvT-loop
 Inv-loop image₀ buffer₀ file count out₀ reached₀ k₀ image buffer out reached k =
-    (k ≤ count) × (length image ≡ imageLength) × (length buffer ≡ readLimit) × (length out ≡ length out₀) × (reached .at ≤ lineRoom * k)
+    (k ≤ count) × (length image ≡ imageLength) × (length buffer ≡ readLimit) × (length out ≡ length out₀) × (reached .at ≤ lineRoom 4 * k)
     × (stateWith image (reached .working) ≡ stateAfter (stateWith image₀ idleWorking) file k)
     × Puts 0 (textAfter (stateWith image₀ idleWorking) file k) out₀ out (reached .at)
 
@@ -36,22 +38,27 @@ loop-holds c =
       text-none s (a .file .now) (a .out .now),
     )
 
+turn-requires : tie.Need-turn-requires Inv-loop μ-loop
+turn-requires c κs = (search needs, search needs, search needs, omega (arith, length-index (c .before .before .before .before .before .loop .k) (omega arith)))
+
 loop-again : tie.Need-loop-again Inv-loop μ-loop
 loop-again c =
-    let a = c .before .before .before .before .before .before .before .before .before .before .before .before .before .before .before .before .before .args in
+    let a = c .before .before .before .before .before .before .before .before .before .before .before .before .before .before .before .before .before .before .args in
     let s = stateWith (a .image .now) idleWorking in
-    let i = c .before .before .before .before .before .before .before .before .before .before .before .loop .inv in
+    let l = c .before .before .before .before .before .before .before .before .before .before .before .before .loop in
+    let i = l .inv in
     let t = c .before .before .before .before .before .before .turn in
-    let few = c .before .before .before .before .before .before .before .before .before .before .before .before .before .before .before .before .before .pre .3 in
-    let wide = c .before .before .before .before .before .before .before .before .before .before .before .before .before .before .before .before .before .pre .4 in
-    let room = turn-room s (a .file .now) _ _ _ _ _ _ _ _ _ _ (i .5) (t .ensures) (omega arith) in (
+    let part = part-record (a .file .now) (l .k) in
+    let few = c .before .before .before .before .before .before .before .before .before .before .before .before .before .before .before .before .before .before .pre .3 in
+    let wide = c .before .before .before .before .before .before .before .before .before .before .before .before .before .before .before .before .before .before .pre .4 in
+    let room = turn-room s (a .file .now) _ _ _ _ _ _ _ _ _ _ _ (i .5) part (t .ensures) (omega arith) in (
       search needs,
       t .kept .0 ∙ i .1,
       t .kept .1 .1 .0 ∙ i .2,
       t .kept .1 .1 .1 .1 .1 .0 ∙ i .3,
       omega arith,
-      turn-state s (a .file .now) _ _ _ _ _ _ _ _ _ _ (i .5) (t .ensures),
-      turn-text s (a .file .now) _ _ _ _ _ _ _ _ _ _ (i .5) (t .ensures) _ (omega arith) (i .6),
+      turn-state s (a .file .now) _ _ _ _ _ _ _ _ _ _ _ (i .5) part (t .ensures),
+      turn-text s (a .file .now) _ _ _ _ _ _ _ _ _ _ _ (i .5) part (t .ensures) _ (omega arith) (i .6),
     )
 
 returns : tie.Need-returns Inv-loop μ-loop
@@ -67,7 +74,14 @@ play-spec =
     μ-loop
     (λ c κs. search needs)
     loop-holds
-    (λ c κs. search needs)
+    (λ c. search needs)
+    (λ c. search needs)
+    (λ c. search needs)
+    (λ c. search needs)
+    (λ c. search needs)
+    (λ c. search needs)
+    (λ c. search needs)
+    turn-requires
     (λ c. search needs)
     (λ c. search needs)
     loop-again
