@@ -5,6 +5,7 @@ use crate::module::*;
 use crate::night;
 use crate::registers::*;
 use crate::soundness;
+use crate::stream::Stream;
 
 /// A module on the bench: Application 1 with 4 lanes beginning on 0 or 4, and
 /// descriptor 2 at FFh unless a case changes the image first.
@@ -521,4 +522,124 @@ fn the_index_counts_past_every_digit() {
     }
     let expected: String = (0..5000).map(|index| format!("{} 8\n", index)).collect();
     assert!(night::replay(&file) == expected.as_bytes());
+}
+
+// ---- the night in pieces ----
+
+/// What the streaming form prints for each piece, and at last for the end.
+fn texts(pieces: &[&[u8]]) -> Vec<String> {
+    let mut stream = Stream::begin();
+    let mut printed = Vec::new();
+    let mut texts = Vec::new();
+    for piece in pieces {
+        stream.feed(piece, &mut printed);
+        texts.push(String::from_utf8_lossy(&printed).to_string());
+        printed.clear();
+    }
+    stream.finish(&mut printed);
+    texts.push(String::from_utf8_lossy(&printed).to_string());
+    texts
+}
+
+/// All that the streaming form prints for a file, the same however it is cut.
+fn streamed(file: &[u8]) -> String {
+    let text = texts(&[file]).concat();
+    for size in [1, 5, 11, 12, 13, 16, 783, 784, 785, 4096] {
+        let pieces: Vec<&[u8]> = file.chunks(size).collect();
+        assert_eq!(texts(&pieces).concat(), text, "in pieces of {}", size);
+    }
+    let empty: &[u8] = &[];
+    let (first, rest) = file.split_at(file.len().min(5));
+    let (second, rest) = rest.split_at(rest.len().min(785));
+    assert_eq!(texts(&[empty, first, empty, second, rest, empty]).concat(), text);
+    text
+}
+
+/// The example's image and three records: `work 0`, `work 9`, `read 0 1`.
+fn three_records() -> Vec<u8> {
+    let mut file = example();
+    file.truncate(784);
+    file[4..8].copy_from_slice(&3u32.to_be_bytes());
+    for record in [[3, 0, 0], [3, 9, 0], [2, 0, 1]] {
+        file.extend_from_slice(&record);
+        file.extend_from_slice(&[0; 9]);
+    }
+    file
+}
+
+fn with_byte(mut file: Vec<u8>, place: usize, byte: u8) -> Vec<u8> {
+    file[place] = byte;
+    file
+}
+
+#[test]
+fn a_whole_file_prints_the_same_in_pieces() {
+    assert_eq!(streamed(&three_records()), "0 6\n1 8\n2 0 00\n");
+    assert_eq!(streamed(&example()).as_bytes(), night::replay(&example()));
+    let mut none = with_byte(three_records(), 7, 0);
+    none.truncate(784);
+    assert_eq!(streamed(&none), "");
+}
+
+#[test]
+fn a_fault_found_later_is_the_last_line() {
+    let file = three_records();
+    for length in [0, 1, 15, 16, 783, 784, 795] {
+        assert_eq!(streamed(&file[..length]), "bad 9\n", "its first {} bytes", length);
+    }
+    assert_eq!(streamed(&file[..796]), "0 6\nbad 9\n");
+    assert_eq!(streamed(&file[..file.len() - 1]), "0 6\n1 8\nbad 9\n");
+    assert_eq!(streamed(&[&file[..], &[0]].concat()), "0 6\n1 8\n2 0 00\nbad 9\n");
+    let wrong = with_byte(file.clone(), 784 + 24, 0xFF);
+    assert_eq!(streamed(&[&wrong[..], &file].concat()), "0 6\n1 8\nbad 9\n");
+    let unused = with_byte(file.clone(), 784 + 23, 1);
+    assert_eq!(streamed(&unused), "0 6\nbad 9\n");
+    let none = with_byte(file[..785].to_vec(), 7, 0);
+    assert_eq!(streamed(&none), "bad 9\n");
+    let mut most = file;
+    most[4..8].fill(0xFF);
+    assert_eq!(streamed(&most), "0 6\n1 8\n2 0 00\nbad 9\n");
+}
+
+#[test]
+fn a_refused_image_hides_every_later_fault() {
+    let flat = with_byte(three_records(), 16 + 2, 0x80);
+    let turned = with_byte(three_records(), 16 + P02 + 195, 1);
+    for (file, line) in [(flat, "bad 2\n"), (turned, "bad 10\n")] {
+        let malformed = with_byte(file.clone(), 784, 0xFF);
+        for file in [&file[..], &file[..784], &file[..785], &[&file[..], &[0]].concat(), &malformed] {
+            assert_eq!(streamed(file), line);
+        }
+        assert_eq!(texts(&[&file[..784], &file[784..785]]), [line, "", ""]);
+        assert_eq!(streamed(&file[..783]), "bad 9\n");
+        assert_eq!(streamed(&with_byte(file, 15, 0x11)), "bad 9\n");
+    }
+}
+
+#[test]
+fn each_part_is_judged_at_its_last_byte() {
+    let file = three_records();
+    let cut = |file: &[u8], at: usize| texts(&[&file[..at - 1], &file[at - 1..at], &file[at..]]);
+    assert_eq!(cut(&with_byte(file.clone(), 0, b'w'), 16), ["", "bad 9\n", "", ""]);
+    assert_eq!(cut(&with_byte(file.clone(), 16 + 2, 0x80), 784), ["", "bad 2\n", "", ""]);
+    assert_eq!(cut(&with_byte(file.clone(), 784, 7), 796), ["", "bad 9\n", "", ""]);
+    assert_eq!(cut(&file, 796), ["", "0 6\n", "1 8\n2 0 00\n", ""]);
+    assert_eq!(cut(&[&file[..], &[0, 0]].concat(), 821), ["0 6\n1 8\n2 0 00\n", "bad 9\n", "", ""]);
+    assert_eq!(cut(&file[..819], 819), ["0 6\n1 8\n", "", "", "bad 9\n"]);
+}
+
+#[test]
+fn the_streaming_form_has_no_limit_of_5000() {
+    let mut file = three_records();
+    file[4..8].copy_from_slice(&100_001u32.to_be_bytes());
+    for _ in 3..100_001 {
+        file.extend_from_slice(&[3, 9, 0, 0, 0, 0, 0, 0, 0, 0, 0, 0]);
+    }
+    let lines: String = (3..100_001).map(|index| format!("{} 8\n", index)).collect();
+    assert!(streamed(&file) == "0 6\n1 8\n2 0 00\n".to_string() + &lines);
+    file[4..8].copy_from_slice(&5001u32.to_be_bytes());
+    file.truncate(784 + 12 * 5001);
+    assert_eq!(streamed(&file).lines().count(), 5001);
+    assert_eq!(night::replay(&file), b"bad 9\n");
+    assert!(std::mem::size_of::<Stream>() < 1024, "the carried state is small");
 }

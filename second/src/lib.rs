@@ -12,6 +12,7 @@
 //!   soundness.
 //! * `night`: the check of a night file and the replay, from the file's
 //!   bytes to the printed bytes (`replay`).
+//! * `stream`: the same for a file that comes in pieces (`Stream`).
 
 #![forbid(unsafe_code)]
 
@@ -21,6 +22,7 @@ pub mod module;
 pub mod night;
 pub mod registers;
 pub mod soundness;
+pub mod stream;
 
 #[cfg(test)]
 mod cases;

@@ -38,30 +38,35 @@ pub fn check(file: &[u8]) -> Result<Night<'_>, u8> {
     if file.len() < RECORDS_AT || file.len() > MAX_FILE {
         return malformed;
     }
-    let number = |at: usize| {
-        u32::from_be_bytes([file[at], file[at + 1], file[at + 2], file[at + 3]]) as usize
+    let (header, rest) = file.split_at(HEADER_LEN);
+    let (image, records) = rest.split_at(IMAGE_LEN);
+    let (header, image) = match (header.try_into(), <&[u8; IMAGE_LEN]>::try_from(image)) {
+        (Ok(header), Ok(image)) => (header, image),
+        _ => return malformed,
     };
-    let count = number(4);
-    if file[..4] != MAGIC
-        || count > MAX_RECORDS
-        || number(8) != HEADER_LEN
-        || number(12) != RECORDS_AT
-        || file.len() != RECORDS_AT + count * RECORD_LEN
-    {
-        return malformed;
+    match record_count(header).map(|count| count as usize) {
+        Some(count) if count <= MAX_RECORDS && records.len() == count * RECORD_LEN => {}
+        _ => return malformed,
     }
-    let records = &file[RECORDS_AT..];
     if !each_record(records).all(well_formed) {
         return malformed;
     }
-    let image = match <&[u8; IMAGE_LEN]>::try_from(&file[HEADER_LEN..RECORDS_AT]) {
-        Ok(image) => image,
-        Err(_) => return malformed,
-    };
     match start_refusal(image) {
         answer::DONE => Ok(Night { image, records }),
         refusal => Err(refusal),
     }
+}
+
+/// The record count that a right header names, whatever its size; none if the
+/// header is wrong.
+pub fn record_count(header: &[u8; HEADER_LEN]) -> Option<u32> {
+    let number = |at: usize| {
+        u32::from_be_bytes([header[at], header[at + 1], header[at + 2], header[at + 3]])
+    };
+    let right = header[..4] == MAGIC
+        && number(8) as usize == HEADER_LEN
+        && number(12) as usize == RECORDS_AT;
+    right.then(|| number(4))
 }
 
 /// How many bytes a record of each kind uses; a write's data come on top.
@@ -84,7 +89,7 @@ const fn unused_bits() -> [(u64, u32); 16] {
 
 /// Whether a record's kind is one of the six and what it does not use is 0.
 #[inline(always)]
-fn well_formed(record: &[u8; RECORD_LEN]) -> bool {
+pub fn well_formed(record: &[u8; RECORD_LEN]) -> bool {
     let kind = record[0];
     if kind == 0 || kind > 6 {
         return false;
@@ -177,7 +182,7 @@ fn replay_night(night: &Night) -> Vec<u8> {
 }
 
 /// " 00" to " ff", each in a word of which the first three bytes count.
-const HEX: [[u8; 4]; 256] = hex_table();
+pub(crate) const HEX: [[u8; 4]; 256] = hex_table();
 
 const fn hex_table() -> [[u8; 4]; 256] {
     let digits = b"0123456789abcdef";

@@ -24,6 +24,13 @@ impl Damage {
         night_file(&made.image, &made.events)
     }
 
+    /// A night for the streaming form alone. Drawn from a copy: what else a
+    /// seed gives does not depend on it.
+    fn long_night(&self) -> Vec<u8> {
+        let made = make_night(&mut self.rng.clone(), 20_000, true, &mut Coverage::default());
+        night_file(&made.image, &made.events)
+    }
+
     fn list(&mut self) {
         let whole = self.night(20);
         let flat = |mut file: Vec<u8>| {
@@ -81,6 +88,14 @@ impl Damage {
         list.push(("above the longest", counted(one_more.clone(), 5001)));
         list.push(("above the longest", [&one_more[..], &[0; 100_000][..]].concat()));
 
+        // Faults that the streaming form finds late, some of them behind lines above 5,000.
+        let long = self.long_night();
+        list.push(("above the longest", with(&long, 784 + 12 * 12_345, 0)));
+        list.push(("above the longest", flat(long.clone())));
+        list.push(("above the longest", long));
+        list.push(("record count", counted(none.clone(), 0xFFFF_FFFF)));
+        list.push(("kind", [&with(&whole, 784 + 12 * 2, 0xFF)[..], &whole].concat()));
+
         for at in [0, 9, 19] {
             for kind in [0, 7, 8, 0x11, 0x81, 0xFF] {
                 list.push(("kind", with(&whole, 784 + 12 * at, kind)));
@@ -121,6 +136,9 @@ impl Damage {
         list.push(("flat and malformed", flat(whole[..whole.len() - 1].to_vec())));
         list.push(("flat and malformed", flat([&whole[..], &[0]].concat())));
         list.push(("flat and malformed", flat(one_more)));
+        for cut in [783, 784, 785] {
+            list.push(("flat and malformed", flat(whole[..cut].to_vec())));
+        }
 
         // Each comparison of limits by 1, low byte first told apart, and the equal neighbours.
         let usual = [1000, 1500, 15000, 20000];
@@ -130,7 +148,9 @@ impl Damage {
             list.push(("back to front", limited(&none, turned_round([0xFF; 4], which))));
             list.push(("back to front and flat", flat(turned.clone())));
             list.push(("back to front and malformed", with(&turned, 784, 0)));
-            list.push(("back to front and malformed", turned[..turned.len() - 1].to_vec()));
+            for cut in [783, 784, 785, turned.len() - 1] {
+                list.push(("back to front and malformed", turned[..cut].to_vec()));
+            }
             list.push(("back to front, flat and malformed", flat(with(&turned, 784 + 239, 1))));
             let mut level = usual;
             level[which] = level[which + 1];

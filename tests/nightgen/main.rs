@@ -14,6 +14,7 @@
 //! * `damage`: damaged files.
 //! * `claims`, `sound_states`: soundness and demand 3, from start and from
 //!   states made otherwise.
+//! * `pieces`: the streaming form, files cut anywhere.
 //! * `options`: the command line. The commands themselves are in this file.
 
 #![forbid(unsafe_code)]
@@ -25,6 +26,7 @@ mod damage;
 mod image;
 mod nights;
 mod options;
+mod pieces;
 mod rng;
 mod rules;
 mod sound_states;
@@ -36,6 +38,7 @@ use self::damage::Damage;
 use self::image::{limits, put_limits, turned_round};
 use self::nights::{make_night, night_file, night_length, REFUSED_EVERY};
 use self::options::Options;
+use self::pieces::Pieces;
 use self::rng::Rng;
 use second::night;
 use std::collections::BTreeMap;
@@ -50,7 +53,8 @@ nightgen: night files from fixed seeds
   nightgen damaged [--seed S] [--count N] OUTPUT   damaged files, and some whole ones
   nightgen bench   [--seed S] [--records R] --dir D | --stream F
                                                    one night of R mixed records
-  nightgen check   [--seed S] [--count N]          soundness and demand 3 on N nights
+  nightgen check   [--seed S] [--count N]          soundness and demand 3 on N nights;
+                                                   these and damaged files cut anywhere
 
 OUTPUT is --dir D (files 00000.night and so on) or --stream F (each file after
 its length in 4 bytes, high byte first; - is standard output). What the files
@@ -169,23 +173,26 @@ fn bench(options: &Options) -> Result<(), String> {
 
 fn check(options: &Options) -> Result<(), String> {
     let mut rng = Rng(options.seed);
+    let mut cuts = Rng(!options.seed);
     let mut uncounted = Coverage::default();
     let mut claims = Claims::default();
+    let mut pieces = Pieces::default();
     for index in 0..options.count {
         let length = night_length(&mut rng, index);
         let made = make_night(&mut rng, length, true, &mut uncounted);
-        if let Err(what) = claims.night(&made) {
-            let name = "counterexample.night";
-            let file = night_file(&made.image, &made.events);
-            fs::write(name, file).map_err(failed)?;
-            return Err(format!(
-                "seed {}, night {}: {} (written to {})",
-                options.seed, index, what, name
-            ));
-        }
+        let file = night_file(&made.image, &made.events);
+        claims
+            .night(&made)
+            .and_then(|()| pieces.file(&file, &mut cuts))
+            .map_err(|what| counterexample(options, index, &file, what))?;
         for _ in 0..200 {
             claims.made_state(&mut rng)?;
         }
+    }
+    let mut damage = Damage::new(&mut rng);
+    for index in 0..damage.listed.len() + options.count {
+        let (_, file) = damage.next();
+        pieces.file(&file, &mut cuts).map_err(|what| counterexample(options, index, &file, what))?;
     }
     println!(
         "{} nights, {} events: every state reached from start is sound",
@@ -203,5 +210,18 @@ fn check(options: &Options) -> Result<(), String> {
         "{} of these events from states with no passing group: the late run agrees as well",
         claims.made_late_events
     );
+    println!(
+        "{} nights and damaged files in {} pieces: the streaming form prints the same as for each in one",
+        pieces.files, pieces.pieces
+    );
     Ok(())
+}
+
+/// A file that breaks a claim is kept, to be looked at.
+fn counterexample(options: &Options, index: usize, file: &[u8], what: String) -> String {
+    let name = "counterexample.night";
+    match fs::write(name, file) {
+        Ok(()) => format!("seed {}, file {}: {} (written to {})", options.seed, index, what, name),
+        Err(error) => failed(error),
+    }
 }

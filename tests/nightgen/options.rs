@@ -1,6 +1,5 @@
 //! What the command line says, and where the files go.
 
-use second::night;
 use std::fs::{self, File};
 use std::io::{self, BufWriter, Write};
 use std::path::{Path, PathBuf};
@@ -30,8 +29,8 @@ impl Options {
                 _ => return Err(format!("{} is not an option", name)),
             }
         }
-        if options.records > night::MAX_RECORDS {
-            return Err(format!("a night has at most {} records", night::MAX_RECORDS));
+        if options.records > u32::MAX as usize {
+            return Err(format!("a night has at most {} records", u32::MAX));
         }
         Ok(options)
     }

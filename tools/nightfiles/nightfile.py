@@ -7,7 +7,9 @@ from .editions import EDITIONS, IMAGE_AT, Edition
 
 MAGIC = b"WL"
 RECORD_LENGTH = 12
+# In a file that is replayed in one, and in one that the streaming form alone takes: all that four bytes count.
 MOST_RECORDS = 5000
+MOST_COUNTED = 2**32 - 1
 
 
 class Malformed(Problem):
@@ -37,8 +39,8 @@ def edition_of(beginning):
     return None
 
 
-def read_night(file, name):
-    """The night of a file; Malformed says what is wrong with it."""
+def read_night(file, name, most=MOST_RECORDS):
+    """The night of a file with so many records at most; Malformed says what is wrong with it."""
 
     def check(holds, why, *values):
         if not holds:
@@ -51,7 +53,7 @@ def read_night(file, name):
     start = edition.records_at
     check(len(file) >= start, "%d bytes, header and image alone take %d", len(file), start)
     count, image_at, records_at = (int.from_bytes(file[at : at + 4], "big") for at in (4, 8, 12))
-    check(count <= MOST_RECORDS, "%d records, at most %d are allowed", count, MOST_RECORDS)
+    check(count <= most, "%d records, at most %d are allowed", count, most)
     check(image_at == IMAGE_AT, "image offset is %d and not %d", image_at, IMAGE_AT)
     check(records_at == start, "records offset is %d and not %d", records_at, start)
     length = start + RECORD_LENGTH * count

@@ -1,7 +1,7 @@
 """A night with its answers, in words. Everything beside the night's own text stands behind a #, so that the whole is
 still a text of the night."""
 
-from .nightfile import Malformed, read_night
+from .nightfile import MOST_RECORDS, Malformed, read_night
 from .pages import HALF, LOWER, Selection
 from .printed import bad_number, read_answers
 from .records import READ
@@ -38,11 +38,11 @@ def read_lines(page, address, data):
         yield from wrapped(heading, things)
 
 
-def show_with(file, file_name, printed, printed_name):
-    """The lines of a night file and of what its replay printed."""
+def show_with(file, file_name, printed, printed_name, most=MOST_RECORDS):
+    """The lines of a night file with so many records at most, and of what its replay printed."""
     bad = bad_number(printed)
     try:
-        night = read_night(file, file_name)
+        night = read_night(file, file_name, most)
     except Malformed as malformed:
         if bad != MALFORMED:
             raise

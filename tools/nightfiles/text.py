@@ -55,7 +55,8 @@ def show(night):
 
 
 class Packer:
-    def __init__(self):
+    def __init__(self, most):
+        self.most = most
         self.take_edition(EDITIONS[USUAL_EDITION])
         self.begun = False
         self.records = []
@@ -114,8 +115,8 @@ class Packer:
             self.memory[place + offset] = byte
 
     def record_line(self, kind_number, kind, rest):
-        if len(self.records) == MOST_RECORDS:
-            raise Problem("more than %d records" % MOST_RECORDS)
+        if len(self.records) == self.most:
+            raise Problem("more than %d records (see --long)" % self.most)
         record = bytes([kind_number]) + kind.pack(rest, self.selection)
         self.records.append(record.ljust(RECORD_LENGTH, b"\0"))
         follow(self.selection, kind, record)
@@ -124,9 +125,9 @@ class Packer:
         return Night(self.edition, bytes(self.memory), self.records)
 
 
-def pack(text, name):
-    """The night file of a text."""
-    packer = Packer()
+def pack(text, name, most=MOST_RECORDS):
+    """The night file of a text with so many records at most."""
+    packer = Packer(most)
     for line_number, line in enumerate(text.splitlines(), 1):
         line = line.split("#", 1)[0].strip()
         if line:

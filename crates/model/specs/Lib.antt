@@ -6,7 +6,7 @@
 --   01 "Triggers and verdicts"       Applications, View, Groups, Verdicts, Triggers
 --   01 "Work step", "ConfigStatus"   Effect, Work, Statuses
 --   01 "Paths and flags"             PathStates, Hardware, Flags
---   01 "The night file"              File, Text, Night; the list of events: Outcome
+--   01 "The night file"              File, Text, Night; in pieces (02 Req 09): Stream; the list of events: Outcome
 --   01 "How tightly each answer is held", and the runs that demand 3 compares   Step, Outcome
 --
 -- The types of lanes, paths, events, answers and files are those of the code, in ../src; a file names them as declared.FILE.TYPE. An `abbrev` is a short name that
@@ -38,3 +38,4 @@ pub mod Outcome
 pub mod File
 pub mod Text
 pub mod Night
+pub mod Stream

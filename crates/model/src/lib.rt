@@ -7,3 +7,4 @@ pub mod lane;
 pub mod page;
 pub mod path;
 pub mod status;
+pub mod stream;

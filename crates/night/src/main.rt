@@ -1,30 +1,59 @@
-// Replays the night file on standard input and writes what it prints.
-use contracts::Replayed;
+// Replays the night file on standard input: the whole of it is checked, and then fed in one piece.
+ghost use mathlib.Core.Path.{_≡_};
+ghost use Prim.Native.Nat.{_≤_};
+ghost use lib.ListN.{length};
+ghost use Rattle.model.specs.Map.{imageLength};
+ghost use Rattle.night_text.specs.Buffer.{longestLine};
 use libc::STDIN_FILENO;
 use libc::STDOUT_FILENO;
+use map::IMAGE_LENGTH;
+use model::answer::Answer;
+use model::file::FileCheck;
 
 // The longest file, and one byte more to notice a longer one.
 const INPUT: usize = 60785;
 
-// The longest text: 5,000 lines of 391 bytes.
-const OUTPUT: usize = 1955000;
+const OUTPUT: usize = 65536;
 
-// Reads to the end of the input or of the buffer, replays what was read, and writes the text.
-fn replay_input(input: &mut [u8], output: &mut [u8]) {
-    let n = io::read_full(STDIN_FILENO, input);
-    let replayed = night_replay::replay(&input[..n], output);
-    let Replayed::Printed(count) = replayed else {
-        return;
-    };
-    io::write_all(STDOUT_FILENO, &output[..count]);
+// The only line of a file that is not replayed.
+fn print_bad(answer: Answer, out: &mut [u8])
+    requires { ⌜ longestLine ≤ length (now out) ⌝ }
+{
+    let number = answer.number();
+    let n = night_text::put_bad(out, 0, number);
+    io::write_all(STDOUT_FILENO, &out[..n]);
 }
 
-fn replay_whole(input: &mut [u8; INPUT], output: &mut [u8; OUTPUT]) {
-    replay_input(input, output)
+// The lines of a good file.
+fn print_lines(file: &[u8], image: &mut [u8], out: &mut [u8])
+    requires { ⌜ (length (now image) ≡ imageLength) × (longestLine ≤ length (now out)) ⌝ }
+{
+    let begun = pieces::begin();
+    let carried = pieces_out::print_piece(image, begun, file, out);
+    pieces_out::print_end(carried, out)
+}
+
+fn print_night(file: &[u8], image: &mut [u8], out: &mut [u8])
+    requires { ⌜ (length (now image) ≡ imageLength) × (longestLine ≤ length (now out)) ⌝ }
+{
+    let found = night_file::check(file);
+    match found {
+        FileCheck::Refused(answer) => print_bad(answer, out),
+        FileCheck::Good(_) => print_lines(file, image, out),
+    }
+}
+
+// Reads to the end of the input or of the buffer, and prints what was read.
+fn replay_input(input: &mut [u8], image: &mut [u8], out: &mut [u8])
+    requires { ⌜ (length (now image) ≡ imageLength) × (longestLine ≤ length (now out)) ⌝ }
+{
+    let n = io::read_full(STDIN_FILENO, input);
+    print_night(&input[..n], image, out)
 }
 
 fn main() {
     let mut input = [0u8; INPUT];
-    let mut output = [0u8; OUTPUT];
-    replay_whole(&mut input, &mut output);
+    let mut image = [0u8; IMAGE_LENGTH];
+    let mut out = [0u8; OUTPUT];
+    replay_input(&mut input, &mut image, &mut out)
 }

@@ -2,18 +2,19 @@
 use mathlib.Core.Path.{_≡_, refl, sym, ap, _∙_}
 use mathlib.Core.Bool.{Bool, true, false, _&&_}
 use mathlib.Core.List.{List}
-use Prim.Native.Nat.{ℕ, _+_, _-_, _*_, _≤_, _<_}
+use Prim.Native.Nat.{ℕ, zero, suc, _+_, _-_, _*_, _^_, _≤_, _<_}
+use native.Mathlib.Nat.{add-zero}
 use native.Mathlib.Numerals.{add-one}
 use native.Mathlib.Omega.{arith}
 use lib.Dec.{eqb, leb, ltb}
 use lib.ListN.{length, getD, take, drop}
-use lib.Bits.{bitOr}
-use borrow.Author.Tests.{eqb-true, le-leb, lt-leb, eq-eqb, ne-eqb}
-use Rattle.bits.specs.Choice.{both, implies}
+use lib.Pow.{pow-pos, pow-add}
+use borrow.Author.Tests.{eqb-true, eqb-false, leb-true, ltb-true, ltb-false, le-leb, lt-ltb, eq-eqb, ne-eqb}
+use Rattle.bits.specs.Choice.{both}
 use Rattle.bits.specs.Loop.{allBelow}
-use Rattle.bits.proofs.Tests.{and-both, split, clash, both-i, both-r, pick-true, pick-false}
-use Rattle.bits.proofs.Number.{or-none}
-use Rattle.bits.proofs.Loops.{all-at}
+use Rattle.bits.proofs.Tests.{and-both, split, clash, bool-eq, implies-use, implies-i, both-i, both-l, both-r, pick-true, pick-false}
+use Rattle.bits.proofs.Loops.{all-at, all-intro}
+use Rattle.night_file.specs.Clear.{isClear, isClearFrom, lowFirst, tailOf}
 use Rattle.model.specs.Answers.{number, isDone}
 use Rattle.model.specs.Refusals.{firstOf, startRefusals}
 use Rattle.model.specs.File.{Edition, firstEdition, recordCount, isHeader, isWholeLength, imageIn, recordStart, recordIn, usedBytes, isRecord, isWellFormed, fileCheckBy, fileCheckUpTo, recordsOffset, recordLength}
@@ -34,11 +35,6 @@ both-right false b e = refl
 pub both-left : (a b : Bool) → a ≡ false → both a b ≡ false
 unfolding both
 both-left a b e = rw (e, both)
-
-both-true : (a : Bool) → both a true ≡ a
-unfolding both
-both-true true = refl
-both-true false = refl
 
 -- ---- a turn of a loop over all numbers below a count, and its end at one that fails
 pub all-turn : (n : ℕ) (p : ℕ → Bool) → allBelow n p ≡ true → p n ≡ true → allBelow (n + 1) p ≡ true
@@ -68,27 +64,78 @@ unfolding recordIn
 part-record file k = let e : recordStart file k + recordLength - recordStart file k ≡ recordLength = omega arith in rw e
 
 -- ---- one record
-module _ (e : Edition) (bytes : List ℕ) where
-  -- byte j is 0 if it is not used
-  abbrev pub isClear : ℕ → Bool
-  isClear j = implies (leb (usedBytes (e .forms) bytes) j) (eqb (getD bytes j 0) 0)
+module _ (used : ℕ) (bytes : List ℕ) where
+  -- a record of a listed kind is one by the bytes that the kind does not use
+  pub record-by : (r : Bool) → r ≡ isClearFrom used bytes → usedBytes (firstEdition .forms) bytes ≡ used → 0 < used → r ≡ isRecord firstEdition bytes
+  unfolding isRecord isClearFrom both
+  record-by r p u h = rw (u, lt-ltb 0 used h, both) p
 
-  -- the bytes that are not used, gathered: 0 exactly while each of them is
-  pub clear-begin : eqb 0 0 ≡ allBelow 0 isClear
-  unfolding allBelow
-  clear-begin = refl
+  clear-at : isClearFrom used bytes ≡ true → (j : ℕ) → used ≤ j → j < recordLength → getD bytes j 0 ≡ 0
+  unfolding isClearFrom
+  clear-at e j u h = eqb-true _ _ (implies-use (leb used j) _ (all-at recordLength (isClear used bytes) e j h) (le-leb used j u))
 
-  pub clear-more : (j rest : ℕ) → eqb rest 0 ≡ allBelow j isClear → usedBytes (e .forms) bytes ≤ j → eqb (bitOr rest (getD bytes j 0)) 0 ≡ allBelow (j + 1) isClear
-  unfolding allBelow implies
-  clear-more j rest h u = rw (add-one, or-none rest (getD bytes j 0), h, le-leb _ _ u, implies)
+  clear-all : ((j : ℕ) → used ≤ j → j < recordLength → getD bytes j 0 ≡ 0) → isClearFrom used bytes ≡ true
+  unfolding isClearFrom
+  clear-all f = all-intro recordLength (isClear used bytes) (λ j h. implies-i (leb used j) _ (λ u. eq-eqb _ _ (f j (leb-true used j u) h)))
 
-  pub clear-used : (j rest : ℕ) → eqb rest 0 ≡ allBelow j isClear → j < usedBytes (e .forms) bytes → eqb rest 0 ≡ allBelow (j + 1) isClear
-  unfolding allBelow implies
-  clear-used j rest h u = rw (add-one, h, lt-leb _ _ u, implies) (sym (both-true _))
+-- one byte more
+pub clear-step : (used : ℕ) (bytes : List ℕ) (a b : Bool) → used < recordLength → a ≡ eqb (getD bytes used 0) 0 → b ≡ isClearFrom (suc used) bytes
+    → (a && b) ≡ isClearFrom used bytes
+clear-step used bytes a b h p q =
+    joined p q
+    ∙ bool-eq _ _
+    (λ e. clear-all used bytes (λ j u l. split (eqb j used)
+    (λ t. let z : j ≡ used = eqb-true _ _ t in rw z (eqb-true _ _ (both-l _ _ e)))
+    (λ t. clear-at (suc used) bytes (both-r _ _ e) j (ne-le used j u (eqb-false _ _ t)) l)))
+    (λ e. both-i (eq-eqb _ _ (clear-at used bytes e used (omega arith) h)) (clear-all (suc used) bytes (λ j u l. clear-at used bytes e j (omega arith) l)))
+  where
+    ne-le : (m n : ℕ) → m ≤ n → (n ≡ m → ⊥) → suc m ≤ n
+    ne-le m n h f = split (ltb m n) (λ t. ltb-true m n t) (λ t. absurd (f (omega (arith, ltb-false m n t))))
 
-  pub record-by : (used rest : ℕ) → used ≡ usedBytes (e .forms) bytes → eqb rest 0 ≡ allBelow recordLength isClear → (ltb 0 used && eqb rest 0) ≡ isRecord e bytes
-  unfolding isRecord
-  record-by used rest u h = joined (ap (ltb 0) u) h
+-- ---- the last bytes as one number: it stays below a limit exactly where those from some place on are 0
+eight-more : (m : ℕ) → 2 ^ (8 * suc m) ≡ 256 * 2 ^ (8 * m)
+eight-more m = let e : 8 * suc m ≡ 8 + 8 * m = omega arith in rw e (pow-add 2 8 (8 * m))
+
+next-at : (at j : ℕ) → at + suc j ≡ suc at + j
+next-at at j = omega arith
+
+module _ (bytes : List ℕ) where
+  low-below : (m n at : ℕ) → lowFirst n bytes at < 2 ^ (8 * m) → (j : ℕ) → m ≤ j → j < n → getD bytes (at + j) 0 ≡ 0
+  unfolding lowFirst
+  low-below m zero at h j u l = absurd (omega arith)
+  low-below zero (suc n) at h zero u l = rw (add-zero at) (omega arith)
+  low-below zero (suc n) at h (suc j) u l = rw (next-at at j) (low-below zero n (suc at) (omega arith) j (omega arith) (omega arith))
+  low-below (suc m) (suc n) at h zero u l = absurd (omega arith)
+  low-below (suc m) (suc n) at h (suc j) u l = rw (next-at at j) (low-below m n (suc at) (omega (arith, eight-more m)) j (omega arith) (omega arith))
+
+  below-low : ((i : ℕ) → getD bytes i 0 < 256) → (m n at : ℕ) → ((j : ℕ) → m ≤ j → j < n → getD bytes (at + j) 0 ≡ 0) → lowFirst n bytes at < 2 ^ (8 * m)
+  unfolding lowFirst
+  below-low small m zero at f = pow-pos (8 * m)
+  below-low small zero (suc n) at f =
+      let z : getD bytes at 0 ≡ 0 = rw add-zero at (f 0 (omega arith) (omega arith)) in
+      let v = below-low small zero n (suc at) (λ j u l. rw (next-at at j) at (f (suc j) (omega arith) (omega arith))) in
+      omega arith
+  below-low small (suc m) (suc n) at f =
+      let v = below-low small m n (suc at) (λ j u l. rw (next-at at j) at (f (suc j) (omega arith) (omega arith))) in
+      omega (arith, small at, eight-more m)
+
+  tail-clear : (m : ℕ) → tailOf bytes < 2 ^ (8 * m) → isClearFrom (4 + m) bytes ≡ true
+  tail-clear m h = clear-all (4 + m) bytes at-tail
+    where
+      at-tail : (j : ℕ) → 4 + m ≤ j → j < recordLength → getD bytes j 0 ≡ 0
+      at-tail j u l = let z : j ≡ 4 + (j - 4) = omega arith in rw z (low-below m 8 4 h (j - 4) (omega arith) (omega arith))
+
+  module _ (small : (i : ℕ) → getD bytes i 0 < 256) where
+    clear-tail : (m : ℕ) → isClearFrom (4 + m) bytes ≡ true → tailOf bytes < 2 ^ (8 * m)
+    clear-tail m e = below-low small m 8 4 (λ j u l. clear-at (4 + m) bytes e (4 + j) (omega arith) (omega arith))
+
+    pub tail-below : (m : ℕ) → ltb (tailOf bytes) (2 ^ (8 * m)) ≡ isClearFrom (4 + m) bytes
+    tail-below m = bool-eq _ _ (λ e. tail-clear m (ltb-true (tailOf bytes) (2 ^ (8 * m)) e)) (λ e. lt-ltb (tailOf bytes) (2 ^ (8 * m)) (clear-tail m e))
+
+    pub tail-none : eqb (tailOf bytes) 0 ≡ isClearFrom 4 bytes
+    tail-none = bool-eq _ _
+        (λ e. let h : tailOf bytes ≡ 0 = eqb-true _ _ e in tail-clear 0 (omega arith))
+        (λ e. let h : tailOf bytes < 1 = clear-tail 0 e in eq-eqb (tailOf bytes) 0 (omega arith))
 
 -- ---- what the check finds
 module _ (limit : ℕ) (file : List ℕ) where

@@ -1,11 +1,12 @@
 // Night files: header, records, the check of a whole file, and the event of each of its records.
 ghost use mathlib.Core.Path.{_≡_};
-ghost use Prim.Native.Nat.{_+_, _*_, _≤_, _<_};
+ghost use Prim.Native.Nat.{_+_, _*_, _^_, _≤_, _<_};
 ghost use lib.ListN.{length};
 ghost use lib.Dec.{ltb};
 ghost use Rattle.bits.specs.Choice.{pick, both};
 ghost use Rattle.bits.specs.Loop.{allBelow};
-ghost use Rattle.model.specs.File.{firstEdition, isHeader, isWholeLength, recordCount, usedBytes, isRecord, callOf, eventOf, recordIn, fileCheck, imageOffset, recordsOffset, recordLimit, recordLength};
+ghost use Rattle.model.specs.File.{firstEdition, isHeader, isWholeLength, recordCount, writtenBytes, isRecord, callOf, eventOf, recordIn, fileCheck, imageOffset, recordsOffset, recordLimit, recordLength};
+ghost use Rattle.night_file.specs.Clear.{tailOf, isClearFrom};
 use model::answer::Answer;
 use model::event::Call;
 use model::event::Event;
@@ -44,7 +45,7 @@ const SAMPLE: u8 = 6;
 const DATA_LIMIT: u8 = 8;
 
 // How many records a header counts.
-fn record_count(header: &[u8]) -> u32
+pub fn record_count(header: &[u8]) -> u32
     requires { ⌜ imageOffset ≤ length (now header) ⌝ }
     ensures { λ r. ⌜ r ≡ recordCount (now (header .entry)) ⌝ }
 {
@@ -52,7 +53,7 @@ fn record_count(header: &[u8]) -> u32
 }
 
 // Whether a header is as it must be, with no more records than a limit.
-fn is_header(header: &[u8], limit: u32) -> bool
+pub fn is_header(header: &[u8], limit: u32) -> bool
     requires { ⌜ imageOffset ≤ length (now header) ⌝ }
     ensures { λ r. ⌜ r ≡ isHeader limit (now (header .entry)) ⌝ }
 {
@@ -88,35 +89,81 @@ fn data_bytes(count: u8) -> usize
     count as usize
 }
 
-// How many of a record's bytes its kind uses; none for a kind that is not listed.
-fn used_bytes(bytes: &[u8]) -> usize
-    requires { ⌜ recordLength ≤ length (now bytes) ⌝ }
-    ensures { λ r. ⌜ r ≡ usedBytes (firstEdition .forms) (now (bytes .entry)) ⌝ }
+// Two bytes, and four, as one number, the first of them lowest.
+fn pair(low: u8, high: u8) -> u64
+    ensures { λ r. ⌜ (r ≡ low + 256 * high) × (r < 65536) ⌝ }
 {
-    match bytes[0] {
-        WRITE => 3 + data_bytes(bytes[2]),
-        READ => 3,
-        WORK => 2,
-        HARDWARE => 2,
-        CONDITION => 3,
-        SAMPLE => 4,
-        _ => 0,
-    }
+    (low as u64) + 256 * (high as u64)
 }
 
-// Whether a record is of a listed kind, with zeros in the bytes that it does not use: those are gathered in one byte, without a branch that depends on them.
-fn is_record(bytes: &[u8]) -> bool
+fn quad(low: u64, high: u64) -> u64
+    requires { ⌜ (low < 65536) × (high < 65536) ⌝ }
+    ensures { λ r. ⌜ (r ≡ low + 65536 * high) × (r < 4294967296) ⌝ }
+{
+    low + 65536 * high
+}
+
+// The last eight bytes of a record as one number: the compiler makes one load of it.
+fn tail_of(bytes: &[u8]) -> u64
+    requires { ⌜ recordLength ≤ length (now bytes) ⌝ }
+    ensures { λ r. ⌜ r ≡ tailOf (now (bytes .entry)) ⌝ }
+{
+    let low = quad(pair(bytes[4], bytes[5]), pair(bytes[6], bytes[7]));
+    let high = quad(pair(bytes[8], bytes[9]), pair(bytes[10], bytes[11]));
+    low + 4294967296 * high
+}
+
+// What a number of so many bytes stays below.
+fn byte_limit(n: usize) -> u64
+    requires { ⌜ n < 8 ⌝ }
+    ensures { λ r. ⌜ r ≡ 2 ^ (8 * n) ⌝ }
+{
+    1u64 << ((8 * n) as u64)
+}
+
+// Whether a record's bytes from the fourth on are zeros.
+fn is_clear_from_3(bytes: &[u8], tail: u64) -> bool
+    requires { ⌜ (recordLength ≤ length (now bytes)) × (tail ≡ tailOf (now bytes)) ⌝ }
+    ensures { λ r. ⌜ r ≡ isClearFrom 3 (now (bytes .entry)) ⌝ }
+{
+    (bytes[3] == 0) & (tail == 0)
+}
+
+// .. from the third on.
+fn is_clear_from_2(bytes: &[u8], tail: u64) -> bool
+    requires { ⌜ (recordLength ≤ length (now bytes)) × (tail ≡ tailOf (now bytes)) ⌝ }
+    ensures { λ r. ⌜ r ≡ isClearFrom 2 (now (bytes .entry)) ⌝ }
+{
+    (bytes[2] == 0) & is_clear_from_3(bytes, tail)
+}
+
+// Whether a write's bytes behind its data are zeros.
+fn is_write(bytes: &[u8], tail: u64) -> bool
+    requires { ⌜ (recordLength ≤ length (now bytes)) × (tail ≡ tailOf (now bytes)) ⌝ }
+    ensures { λ r. ⌜ r ≡ isClearFrom (writtenBytes (now (bytes .entry))) (now (bytes .entry)) ⌝ }
+{
+    let n = data_bytes(bytes[2]);
+    if n == 0 {
+        return is_clear_from_3(bytes, tail);
+    }
+    tail < byte_limit(n - 1)
+}
+
+// Whether a record is of a listed kind, with zeros in the bytes that it does not use.
+pub fn is_record(bytes: &[u8]) -> bool
     requires { ⌜ recordLength ≤ length (now bytes) ⌝ }
     ensures { λ r. ⌜ r ≡ isRecord firstEdition (now (bytes .entry)) ⌝ }
 {
-    let used = used_bytes(bytes);
-    let mut rest = 0u8;
-    for j in 0..RECORD_LENGTH {
-        if used <= j {
-            rest = rest | bytes[j];
-        }
+    let tail = tail_of(bytes);
+    match bytes[0] {
+        WRITE => is_write(bytes, tail),
+        READ => is_clear_from_3(bytes, tail),
+        WORK => is_clear_from_2(bytes, tail),
+        HARDWARE => is_clear_from_2(bytes, tail),
+        CONDITION => is_clear_from_3(bytes, tail),
+        SAMPLE => tail == 0,
+        _ => false,
     }
-    (0 < used) & (rest == 0)
 }
 
 // Whether every record of a file is one.

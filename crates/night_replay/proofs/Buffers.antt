@@ -1,13 +1,11 @@
 -- Laws of the buffers of a replay: the copy of a file's image, and the text over the front of what was lent. Assumes nothing.
 use mathlib.Core.Path.{_≡_, sym, ap, _∙_}
 use mathlib.Core.List.{List, _++_, append-nil}
-use Prim.Native.Nat.{ℕ, suc, _+_, _≤_, _<_}
+use Prim.Native.Nat.{ℕ, _+_, _≤_, _<_}
 use native.Mathlib.Nat.{zero-add}
-use native.Mathlib.Numerals.{add-one}
 use native.Mathlib.Omega.{arith}
 use lib.Dec.{ltb}
-use lib.ListN.{length, getD, set, take, drop, drop-of-length-le, length-append, length-drop}
-use lib.Seq.{length-take-le, take-suc, drop-cons, append-snoc, set-at}
+use lib.ListN.{length, take, drop, drop-of-length-le, length-append, length-drop}
 use borrow.Author.Tests.{lt-ltb, le-ltb}
 use Rattle.bits.proofs.Tests.{split, pick-true, pick-false}
 use Rattle.model.specs.Outcome.{laidOver}
@@ -15,12 +13,7 @@ use Rattle.night_text.specs.Buffer.{laidAt, Puts}
 use Rattle.contracts.specs.Texts.{answerFor, leftIn, Gives}
 use Rattle.contracts.specs.declared.Replayed.the-variants.{ShortBuffer, Printed}
 
--- a turn of a copy: one element more of the source, one less of what was there
-pub copy-turn : (s d : List ℕ) (i : ℕ) → i < length s → i < length d → set (take i s ++ drop i d) i (getD s i 0) ≡ take (i + 1) s ++ drop (i + 1) d
-copy-turn s d i h g =
-    rw (add-one i, drop-cons d i 0 g, set-at (take i s) (getD d i 0) (drop (suc i) d) (getD s i 0) i (length-take-le i s (omega arith)), take-suc s i 0 h)
-    (sym (append-snoc (take i s) (getD s i 0) (drop (suc i) d)))
-
+-- a copy of all that was there
 pub copy-whole : (s d : List ℕ) (n : ℕ) → length d ≤ n → take n s ++ drop n d ≡ take n s
 copy-whole s d n h = rw (drop-of-length-le d {i = n} h) (append-nil (take n s))
 

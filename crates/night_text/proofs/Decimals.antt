@@ -37,10 +37,22 @@ pub decimal-digits : (x : ℕ) → decimal x ≡ digitsOf (length (decimal x)) x
 unfolding decimal
 decimal-digits x = up-to-digits 10 x
 
--- how many there are: one below ten, else one more than of a tenth
+-- how many there are: as many as there is room for at most
+pub count-up-to : (n x : ℕ) → length (decimalUpTo n x) ≤ n
+unfolding decimalUpTo pick
+count-up-to zero x = omega arith
+count-up-to (suc n) x = split (ltb x 10)
+    (λ e. rw (e, pick) (omega arith))
+    (λ e. rw (e, pick) (omega (arith, length-append (decimalUpTo n (x / 10)) (digitText (x % 10) ∷ []), count-up-to n (x / 10))))
+
+-- .. one below ten, else one more than of a tenth
 pub count-last : (n x : ℕ) → x < 10 → length (decimalUpTo (suc n) x) ≡ 1
 unfolding decimalUpTo pick
 count-last n x h = rw (lt-ltb x 10 h, pick)
+
+pub decimal-one : (x : ℕ) → x < 10 → decimal x ≡ digitText x ∷ []
+unfolding decimal decimalUpTo pick
+decimal-one x h = rw (lt-ltb x 10 h, pick)
 
 pub count-more : (n x : ℕ) → 10 ≤ x → length (decimalUpTo (suc n) x) ≡ suc (length (decimalUpTo n (x / 10)))
 unfolding decimalUpTo pick

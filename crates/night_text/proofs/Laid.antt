@@ -1,11 +1,12 @@
 -- Laws of bytes laid into a buffer: lengths, one text after another, and stores. Assumes nothing.
 use mathlib.Core.Path.{_≡_, sym, ap, _∙_}
 use mathlib.Core.List.{List, [], _∷_, _++_, append-assoc, append-nil}
-use Prim.Native.Nat.{ℕ, suc, _+_, _≤_, _<_}
+use Prim.Native.Nat.{ℕ, suc, _+_, _-_, _≤_, _<_}
 use native.Mathlib.Nat.{add-zero, add-assoc}
+use native.Mathlib.Numerals.{add-one}
 use native.Mathlib.Omega.{arith}
-use lib.ListN.{length, set, take, drop, length-append, take-append-drop}
-use lib.Seq.{lt-length-set, length-take-le, drop-cons, append-snoc, getD-set-same, take-set-le, drop-set-lt, take-at, drop-drop, drop-at, sets, sets-eq}
+use lib.ListN.{length, getD, set, take, drop, length-append, take-append-drop, length-drop}
+use lib.Seq.{lt-length-set, length-take-le, take-suc, drop-cons, append-snoc, set-at, getD-set-same, take-set-le, drop-set-lt, take-at, drop-drop, drop-at, sets, sets-eq}
 use Rattle.night_text.specs.Buffer.{laidAt, Puts}
 
 -- nothing laid, nothing changed
@@ -13,10 +14,14 @@ pub laid-none : (at : ℕ) (buffer : List ℕ) → laidAt at [] buffer ≡ buffe
 unfolding laidAt
 laid-none at buffer = rw (add-zero, append-nil) (take-append-drop at buffer)
 
-module _ (at : ℕ) (bytes buffer : List ℕ) (fits : at + length bytes ≤ length buffer) where
+module _ (at : ℕ) (bytes buffer : List ℕ) (within : at ≤ length buffer) where
   -- what lies before the end of the laid bytes, and after it
   laid-head : length (take at buffer ++ bytes) ≡ at + length bytes
-  laid-head = length-append (take at buffer) bytes ∙ ap (λ n. n + length bytes) (length-take-le at buffer (omega arith))
+  laid-head = length-append (take at buffer) bytes ∙ ap (λ n. n + length bytes) (length-take-le at buffer within)
+
+  pub length-laid : length (laidAt at bytes buffer) ≡ at + length bytes + (length buffer - (at + length bytes))
+  unfolding laidAt
+  length-laid = rw (length-append (take at buffer ++ bytes) (drop (at + length bytes) buffer), laid-head, length-drop (at + length bytes) buffer)
 
   take-laid : take (at + length bytes) (laidAt at bytes buffer) ≡ take at buffer ++ bytes
   unfolding laidAt
@@ -65,3 +70,13 @@ puts-then {at} {p} {q} {a} {b} {x} {y} {z} fits f g =
       buffer = g .buffer ∙ rw (f .next, f .buffer) (laid-append at a x (omega (arith, f .next)) b);
       next = omega (arith, length-append a b, f .next, g .next);
     }
+
+-- a put into a buffer that keeps its length ends within it
+pub puts-within : {at r : ℕ} {text before after : List ℕ} → at ≤ length before → length after ≡ length before → Puts at text before after r → r ≤ length after
+puts-within {at} {r} {text} {before} within kept p = omega (arith, p .next, ap length (p .buffer), length-laid at text before within)
+
+-- a turn of a copy: one element more of the source, one less of what was there
+pub copy-turn : (s d : List ℕ) (i : ℕ) → i < length s → i < length d → set (take i s ++ drop i d) i (getD s i 0) ≡ take (i + 1) s ++ drop (i + 1) d
+copy-turn s d i h g =
+    rw (add-one i, drop-cons d i 0 g, set-at (take i s) (getD d i 0) (drop (suc i) d) (getD s i 0) i (length-take-le i s (omega arith)), take-suc s i 0 h)
+    (sym (append-snoc (take i s) (getD s i 0) (drop (suc i) d)))

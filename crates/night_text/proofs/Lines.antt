@@ -1,7 +1,7 @@
 -- Laws of the texts of bytes and lines: one byte more, and how long they are. Assumes nothing.
 use mathlib.Core.Path.{_≡_, refl, ap, _∙_}
 use mathlib.Core.List.{List, [], _∷_, _++_}
-use Prim.Native.Nat.{ℕ, _+_, _*_, _/_, _%_, _^_, _≤_, _<_}
+use Prim.Native.Nat.{ℕ, _+_, _*_, _/_, _%_, _≤_, _<_}
 use native.Mathlib.Omega.{arith}
 use native.Mathlib.Numerals.{add-one}
 use lib.ListN.{length, getD, take, length-append}
@@ -9,7 +9,7 @@ use lib.Seq.{length-take-le, take-suc, append-snoc}
 use Rattle.model.specs.Text.{ascii, newline, space, digitText, decimal, hexBytes, line, badLine}
 use Rattle.night_text.specs.Buffer.{laidAt, lineRoom}
 use Rattle.night_text.proofs.Laid.{laid-append}
-use Rattle.night_text.proofs.Decimals.{count-last, count-most}
+use Rattle.night_text.proofs.Decimals.{count-last, count-most, count-up-to}
 
 -- a byte's text
 unfoldable pub hexByte : ℕ → List ℕ
@@ -43,10 +43,10 @@ pub length-index : (k : ℕ) → k < 10000 → length (decimal k) ≤ 4
 unfolding decimal
 length-index k h = count-most 3 10 k h
 
--- any index of 32 bits has at most ten
-pub length-any-index : (k : ℕ) → k < 2 ^ 32 → length (decimal k) ≤ 10
+-- any index has at most ten
+pub length-any-index : (k : ℕ) → length (decimal k) ≤ 10
 unfolding decimal
-length-any-index k h = count-most 9 10 k (omega arith)
+length-any-index k = count-up-to 10 k
 
 pub length-line : (k a : ℕ) (bs : List ℕ) → length (line k a bs) ≡ length (decimal k) + length (decimal a) + 3 * length bs + 2
 unfolding line

@@ -16,3 +16,7 @@ pub record Puts (at : ℕ) (text before after : List ℕ) (r : ℕ) : Type 0 whe
 -- the longest line of a record whose index has so many digits: these, a space, a digit, 128 bytes of three characters each, the line's end
 abbrev pub lineRoom : ℕ → ℕ
 lineRoom digits = digits + 387
+
+-- the longest line of any record: an index has at most ten digits
+abbrev pub longestLine : ℕ
+longestLine = lineRoom 10

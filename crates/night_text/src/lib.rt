@@ -45,8 +45,8 @@ fn digit_count(x: u32) -> usize
     10
 }
 
-// A number in decimal, its last digit first.
-fn put_decimal(out: &mut [u8], at: usize, x: u32) -> usize
+// A number of several digits in decimal, its last digit first.
+fn put_digits(out: &mut [u8], at: usize, x: u32) -> usize
     requires { ⌜ at + length (decimal x) ≤ length (now out) ⌝ }
     ensures { λ r. ⌜ Puts at (decimal x) (now (out .entry)) (now (out .exit)) r ⌝ }
 {
@@ -59,6 +59,18 @@ fn put_decimal(out: &mut [u8], at: usize, x: u32) -> usize
         rest = rest / 10;
     }
     at + n
+}
+
+// A number in decimal. Most answers are one digit.
+fn put_decimal(out: &mut [u8], at: usize, x: u32) -> usize
+    requires { ⌜ at + length (decimal x) ≤ length (now out) ⌝ }
+    ensures { λ r. ⌜ Puts at (decimal x) (now (out .entry)) (now (out .exit)) r ⌝ }
+{
+    if x < 10 {
+        let d = digit(x as u8);
+        return put_byte(out, at, d);
+    }
+    put_digits(out, at, x)
 }
 
 // A byte as a space and two hex digits.

@@ -1,48 +1,50 @@
--- `night_file::is_record` meets its contract. The loop's invariant: what is gathered is 0 exactly while the bytes passed are used or 0. Assumes nothing.
+-- `night_file::is_record` meets its contract: each arm's kind picks its count of used bytes. Assumes nothing.
 use native.Mathlib.Omega.{arith}
-use mathlib.Core.Path.{_≡_}
-use mathlib.Core.Logic.{⊎-elim}
-use Prim.Native.Nat.{_-_, _≤_}
+use mathlib.Core.Path.{ap, _∙_}
+use Prim.Native.Nat.{ℕ}
 use lib.Dec.{eqb}
-use Rattle.bits.specs.Loop.{allBelow}
-use Rattle.night_file.proofs.Checks.{isClear, clear-begin, clear-more, clear-used, record-by}
+use borrow.Author.Tests.{ne-eqb}
+use Rattle.bits.specs.Choice.{pick, both}
+use Rattle.model.specs.File.{writtenBytes, usedBytes, isRecord}
+use Rattle.night_file.proofs.Checks.{record-by, tail-none}
 use borrow.Author.Needs.{needs}
-use Rattle.model.specs.File.{firstEdition, recordLength}
 use Rattle.night_file.proofs.is_record.Statement.{statement}
 use Rattle.night_file.proofs.is_record.Tie as tie
 
-abbrev Inv-loop : tie.InvT-loop
-Inv-loop bytes used rest₀ j₀ rest j = (j ≤ recordLength) × (eqb rest 0 ≡ allBelow j (isClear firstEdition bytes))
+returns-6 : tie.Need-returns-6
+unfolding usedBytes pick
+returns-6 c =
+    let none = tail-none (c .before .before .before .before .args .bytes .now) (λ i. omega (arith, c .before .before .before .shared-slice-known .given i)) in
+    record-by _ _ _ (ap (λ (t : ℕ). eqb t 0) (c .before .before .tail-of .ensures) ∙ none) (rw (c .match .keys6)) (omega arith)
 
-abbrev μ-loop : tie.MeasureT-loop
-μ-loop bytes used rest₀ j₀ rest j = recordLength - j
-
-loop-again : tie.Need-loop-again Inv-loop μ-loop
-loop-again c =
-    let a = c .before .before .before .before .before .args in
-    let l = c .before .before .loop in
-    let used = c .before .before .before .used-bytes .ensures in
-    ⊎-elim
-    (λ w. (omega arith, rw (w .2) (clear-more firstEdition (a .bytes .now) (l .j) (l .rest) (l .inv .1) (rw used at (w .0 .taken)))))
-    (λ w. (omega arith, rw (w .1) (clear-used firstEdition (a .bytes .now) (l .j) (l .rest) (l .inv .1) (rw used at (w .0 .left)))))
-    (c .if1 .came)
-
-returns : tie.Need-returns Inv-loop μ-loop
-returns c =
-    let e : c .before .loop .j ≡ recordLength = omega arith in
-    let a = c .before .before .before .before .args in
-    record-by firstEdition (a .bytes .now) _ (c .before .loop .rest) (c .before .before .used-bytes .ensures) (rw e at (c .before .loop .inv .1))
+returns-7 : tie.Need-returns-7
+unfolding isRecord usedBytes pick both
+returns-7 c =
+    rw (
+      ne-eqb _ _ (c .match .rest .0 .0 .0 .0 .0 .1),
+      ne-eqb _ _ (c .match .rest .0 .0 .0 .0 .1),
+      ne-eqb _ _ (c .match .rest .0 .0 .0 .1),
+      ne-eqb _ _ (c .match .rest .0 .0 .1),
+      ne-eqb _ _ (c .match .rest .0 .1),
+      ne-eqb _ _ (c .match .rest .1),
+    )
 
 pub is-record-spec : {M : Type 1} → statement M
+unfolding usedBytes writtenBytes pick
 is-record-spec =
     tie.close
     (tie.spec
-    Inv-loop
-    μ-loop
     (λ c κs. search needs)
-    (λ c. (search needs, clear-begin firstEdition _))
     (λ c. search needs)
-    (λ c. search needs)
-    (λ c. search needs)
-    loop-again
-    returns)
+    (λ c κs. search needs)
+    (λ c κs. search needs)
+    (λ c κs. search needs)
+    (λ c κs. search needs)
+    (λ c κs. search needs)
+    (λ c. record-by _ _ _ (c .is-write .ensures) (rw (c .before .match .keys1)) (omega arith))
+    (λ c. record-by _ _ _ (c .is-clear-from-3 .ensures) (rw (c .before .match .keys2)) (omega arith))
+    (λ c. record-by _ _ _ (c .is-clear-from-2 .ensures) (rw (c .before .match .keys3)) (omega arith))
+    (λ c. record-by _ _ _ (c .is-clear-from-22 .ensures) (rw (c .before .match .keys4)) (omega arith))
+    (λ c. record-by _ _ _ (c .is-clear-from-32 .ensures) (rw (c .before .match .keys5)) (omega arith))
+    returns-6
+    returns-7)

@@ -6,7 +6,8 @@ use Prim.Native.Nat.{_-_, _≤_}
 use lib.ListN.{length, take, drop, length-set, length-drop}
 use lib.Seq.{getD-drop}
 use Rattle.model.specs.File.{imageIn, imageOffset}
-use Rattle.night_replay.proofs.Buffers.{copy-turn, copy-whole}
+use Rattle.night_text.proofs.Laid.{copy-turn}
+use Rattle.night_replay.proofs.Buffers.{copy-whole}
 use borrow.Author.Needs.{needs}
 use Rattle.model.specs.Map.{imageLength}
 use Rattle.night_replay.proofs.copy_image.Statement.{statement}

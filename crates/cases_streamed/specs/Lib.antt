@@ -1,0 +1,2 @@
+-- The nights in pieces.
+pub mod Streamed

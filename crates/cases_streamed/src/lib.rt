@@ -1,0 +1,1 @@
+// Nights in pieces, computed by the checker from the model. No code.

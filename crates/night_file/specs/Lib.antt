@@ -1,0 +1,2 @@
+-- What the check of a record is made of.
+pub mod Clear

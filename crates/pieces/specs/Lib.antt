@@ -1,0 +1,2 @@
+-- Feeds of a night in pieces.
+pub mod Feeding

@@ -1,0 +1,2 @@
+-- What is carried in code.
+pub mod Carrying

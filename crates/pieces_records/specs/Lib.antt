@@ -1,0 +1,2 @@
+-- A run over records that lie in a row.
+pub mod Running

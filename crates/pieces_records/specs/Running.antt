@@ -1,0 +1,58 @@
+-- A run over records that lie whole in a row of bytes: one after the other, while the output has room for a longest line, up to one that is malformed.
+use Prim.Native.Nat.{ℕ, zero, suc, _+_}
+use mathlib.Core.Path.{_≡_}
+use mathlib.Core.Bool.{Bool}
+use mathlib.Core.List.{List}
+use lib.Dec.{leb}
+use lib.ListN.{length, take, drop}
+use Rattle.bits.specs.Choice.{pick, both}
+use Rattle.model.specs.Map.{Image}
+use Rattle.model.specs.Answers.{number}
+use Rattle.model.specs.State.{State, stateWith}
+use Rattle.model.specs.Work.{early}
+use Rattle.model.specs.Step.{Stepped, step}
+use Rattle.model.specs.Outcome.{listRoom}
+use Rattle.model.specs.File.{firstEdition, recordLength, isRecord, eventOf}
+use Rattle.model.specs.Text.{line}
+use Rattle.night_text.specs.Buffer.{laidAt, longestLine}
+use Rattle.pieces_records.specs.declared.Played.{Played}
+
+-- where a run stands: the bytes taken, the next record's index, the bytes printed, the module's state, and the output
+pub record Running : Type 0 where
+  pub taken : ℕ
+  pub next : ℕ
+  pub printed : ℕ
+  pub state : State
+  pub out : List ℕ
+
+-- the next record's bytes
+abbrev pub recordAt : ℕ → List ℕ → List ℕ
+recordAt taken bytes = take recordLength (drop taken bytes)
+
+-- they are there, the output has room for a longest line, and they are a record
+unfoldable pub canPlay : Running → List ℕ → Bool
+canPlay r bytes =
+    both (both (leb (r .taken + recordLength) (length bytes)) (leb (r .printed + longestLine) (length (r .out)))) (isRecord firstEdition (recordAt (r .taken) bytes))
+
+-- a step and its line
+unfoldable pub afterStep : Running → Stepped → Running
+afterStep r o =
+    record {
+      taken = r .taken + recordLength;
+      next = suc (r .next);
+      printed = r .printed + length (line (r .next) (number (o .answer)) (o .bytes));
+      state = o .state;
+      out = laidAt (r .printed) (line (r .next) (number (o .answer)) (o .bytes)) (r .out);
+    }
+
+abbrev pub afterRecord : Running → List ℕ → Running
+afterRecord r bytes = afterStep r (step early listRoom (r .state) (eventOf (recordAt (r .taken) bytes)))
+
+-- at most n records
+unfoldable pub runs : ℕ → Running → List ℕ → Running
+runs zero r bytes = r
+runs (suc n) r bytes = pick (canPlay r bytes) (runs n (afterRecord r bytes) bytes) r
+
+-- where the code stands, with the image and the output that are lent
+abbrev pub running : Played → Image → List ℕ → Running
+running p x out = record { taken = p .taken; next = p .next; printed = p .at; state = stateWith x (p .working); out = out }
