@@ -1,5 +1,5 @@
 -- Laws of the check of a night file: its tests as code computes them, and what the check finds, in its order. Assumes nothing.
-use mathlib.Core.Path.{_≡_, refl, sym, ap, _∙_}
+use mathlib.Core.Path.{_≡_, refl, _∙_}
 use mathlib.Core.Bool.{Bool, true, false, _&&_}
 use mathlib.Core.List.{List}
 use Prim.Native.Nat.{ℕ, zero, suc, _+_, _-_, _*_, _^_, _≤_, _<_}
@@ -17,7 +17,7 @@ use Rattle.bits.proofs.Loops.{all-at, all-intro}
 use Rattle.night_file.specs.Clear.{isClear, isClearFrom, lowFirst, tailOf}
 use Rattle.model.specs.Answers.{number, isDone}
 use Rattle.model.specs.Refusals.{firstOf, startRefusals}
-use Rattle.model.specs.File.{Edition, firstEdition, recordCount, isHeader, isWholeLength, imageIn, recordStart, recordIn, usedBytes, isRecord, isWellFormed, fileCheckBy, fileCheckUpTo, recordsOffset, recordLength}
+use Rattle.model.specs.File.{firstEdition, recordCount, isHeader, isWholeLength, imageIn, recordStart, recordIn, usedBytes, isRecord, isWellFormed, fileCheckBy, fileCheckUpTo, recordsOffset, recordLength}
 use Rattle.model.specs.declared.answer.Answer.{Answer}
 use Rattle.model.specs.declared.answer.Answer.the-variants.{Malformed}
 use Rattle.model.specs.declared.file.FileCheck.the-variants.{Refused, Good}
@@ -58,10 +58,14 @@ framed-length limit file e = eqb-true _ _ (both-r _ _ e)
 abbrev pub isRecordIn : List ℕ → ℕ → Bool
 isRecordIn file k = isRecord firstEdition (recordIn file k)
 
--- record k as the part of the file that is lent
+-- a record's bytes as the part that is lent
+pub part-from : (at : ℕ) (bytes : List ℕ) → take (at + recordLength - at) (drop at bytes) ≡ take recordLength (drop at bytes)
+part-from at bytes = let e : at + recordLength - at ≡ recordLength = omega arith in rw e
+
+-- and those of record k
 pub part-record : (file : List ℕ) (k : ℕ) → take (recordStart file k + recordLength - recordStart file k) (drop (recordStart file k) file) ≡ recordIn file k
 unfolding recordIn
-part-record file k = let e : recordStart file k + recordLength - recordStart file k ≡ recordLength = omega arith in rw e
+part-record file k = part-from (recordStart file k) file
 
 -- ---- one record
 module _ (used : ℕ) (bytes : List ℕ) where

@@ -1,6 +1,6 @@
 // One record of a night file: its event, and then its line.
 ghost use mathlib.Core.Path.{_≡_};
-ghost use Prim.Native.Nat.{_+_, _≤_, _<_};
+ghost use Prim.Native.Nat.{_+_, _≤_};
 ghost use lib.ListN.{length};
 ghost use Rattle.model.specs.Work.{early};
 ghost use Rattle.model.specs.Step.{step};

@@ -1,13 +1,11 @@
 -- Laws of the buffers of a replay: the copy of a file's image, and the text over the front of what was lent. Assumes nothing.
 use mathlib.Core.Path.{_≡_, sym, ap, _∙_}
 use mathlib.Core.List.{List, _++_, append-nil}
-use Prim.Native.Nat.{ℕ, _+_, _≤_, _<_}
+use Prim.Native.Nat.{ℕ, _≤_, _<_}
 use native.Mathlib.Nat.{zero-add}
-use native.Mathlib.Omega.{arith}
-use lib.Dec.{ltb}
-use lib.ListN.{length, take, drop, drop-of-length-le, length-append, length-drop}
+use lib.ListN.{length, take, drop, drop-of-length-le}
 use borrow.Author.Tests.{lt-ltb, le-ltb}
-use Rattle.bits.proofs.Tests.{split, pick-true, pick-false}
+use Rattle.bits.proofs.Tests.{pick-true, pick-false}
 use Rattle.model.specs.Outcome.{laidOver}
 use Rattle.night_text.specs.Buffer.{laidAt, Puts}
 use Rattle.contracts.specs.Texts.{answerFor, leftIn, Gives}
@@ -33,11 +31,3 @@ gives-text {room} {n} {text} {before} h p =
       answer = ap Printed (p .next ∙ zero-add (length text)) ∙ sym (pick-false _ _ (le-ltb _ _ h));
       buffer = p .buffer ∙ laid-front text before ∙ sym (pick-false _ _ (le-ltb _ _ h));
     }
-
--- the count that is answered lies within the buffer
-pub gives-fits : (room : ℕ) (text before after : List ℕ) (n : ℕ) → length after ≡ length before → Gives room text before after (Printed n) → n ≤ length after
-unfolding answerFor leftIn laidOver
-gives-fits room text before after n l g = split (ltb (length before) room)
-    (λ e. let q = g .answer ∙ pick-true _ _ e in let z : _≡_ {A = ℕ} 0 1 = cc q in absurd (omega arith))
-    (λ e. let q = g .answer ∙ pick-false _ _ e in let m : n ≡ length text = cc q in
-    let b = ap length (g .buffer ∙ pick-false _ _ e) ∙ length-append text (drop (length text) before) in omega (arith, length-drop (length text) before))

@@ -1,6 +1,6 @@
 // A night file replayed: from its bytes to all that is printed, in a lent buffer.
 ghost use mathlib.Core.Path.{_≡_};
-ghost use Prim.Native.Nat.{_+_, _*_, _≤_, _<_};
+ghost use Prim.Native.Nat.{_+_, _*_, _≤_};
 ghost use lib.ListN.{length};
 ghost use Rattle.model.specs.Answers.{number};
 ghost use Rattle.model.specs.Start.{startedState};

@@ -2,11 +2,11 @@
 use mathlib.Core.Path.{_≡_, refl, sym, ap, _∙_}
 use mathlib.Core.Bool.{true}
 use mathlib.Core.List.{List, [], _∷_, _++_, append-assoc, append-nil}
-use Prim.Native.Nat.{ℕ, suc, _+_, _-_, _≤_, _<_}
-use native.Mathlib.Nat.{add-zero, add-suc, suc-add}
+use Prim.Native.Nat.{ℕ, suc, _+_, _≤_, _<_}
+use native.Mathlib.Nat.{add-zero, add-suc}
 use native.Mathlib.Numerals.{add-one}
 use native.Mathlib.Omega.{arith}
-use lib.ListN.{length, getD, take, length-append}
+use lib.ListN.{length, getD, take}
 use lib.Seq.{take-suc, take-all, length-take-le}
 use borrow.Author.Tests.{lt-ltb, le-ltb}
 use Rattle.bits.proofs.Tests.{pick-true, pick-false}
@@ -15,7 +15,7 @@ use Rattle.model.specs.Step.{step}
 use Rattle.model.specs.Outcome.{listRoom}
 use Rattle.model.specs.File.{recordLength, isRecord, eventOf}
 use Rattle.model.specs.Stream as stream
-use Rattle.model.specs.Stream.{Took, rowOf, silent, holding, played, took, fed}
+use Rattle.model.specs.Stream.{Took, rowOf, silent, played, took, fed}
 use Rattle.model.specs.declared.stream.Phase.the-variants.{InRecords}
 use Rattle.laws_stream.proofs.Stretches.{fed-append, record-held, whole-record}
 use Rattle.night_text.specs.Buffer.{laidAt, longestLine}

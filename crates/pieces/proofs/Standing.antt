@@ -39,7 +39,7 @@ use Rattle.pieces_bytes.proofs.Holding.{held-short, tidy-phase}
 use Rattle.pieces_bytes.proofs.Keeping.{kept-back, kept-tidy, took-short}
 use Rattle.pieces.specs.declared.Feeding.{Feeding}
 use Rattle.pieces.specs.Feeding.{Going, afterByte, going, atFirst, standing, betweenRecords, Stands, Goes}
-use Rattle.pieces.proofs.Going.{afterBytes, going-none, going-byte, going-silent, going-record}
+use Rattle.pieces.proofs.Going.{going-none, going-byte, going-silent, going-record}
 
 -- nowhere
 pub stays : (f : Feeding) (x : Image) (piece out : List ℕ) → Stands f piece out → Goes piece (standing f x out) f x out

@@ -4,11 +4,11 @@ use mathlib.Core.Bool.{Bool, true, false}
 use mathlib.Core.List.{List}
 use Prim.Native.Nat.{ℕ, suc, _-_, _<_}
 use native.Mathlib.Omega.{arith}
-use lib.Dec.{ltb, leb, eqb}
+use lib.Dec.{ltb}
 use lib.ListN.{length}
 use lib.Seq.{take-at}
 use borrow.Author.Tests.{lt-ltb, ltb-true}
-use Rattle.bits.specs.Choice.{pick, both}
+use Rattle.bits.specs.Choice.{pick}
 use Rattle.bits.specs.Loop.{tab}
 use Rattle.bits.proofs.Tests.{pick-true}
 use Rattle.model.specs.Map.{Image}
@@ -16,7 +16,7 @@ use Rattle.model.specs.Answers.{isDone}
 use Rattle.model.specs.Refusals.{firstOf, startRefusals}
 use Rattle.model.specs.File.{imageOffset, recordLength, isHeader, isRecord}
 use Rattle.model.specs.Stream as stream
-use Rattle.model.specs.Stream.{Took, countLimit, rowOf, refused, tookHeader, startedBy, tookImage, played, tookRecord, tookIn, took, endedIn, ended}
+use Rattle.model.specs.Stream.{Took, countLimit, rowOf, refused, tookHeader, startedBy, tookImage, played, tookRecord, tookIn, took}
 use Rattle.model.specs.declared.answer.Answer.{Answer}
 use Rattle.model.specs.declared.answer.Answer.the-variants.{Malformed}
 use Rattle.model.specs.declared.stream.Phase.{Phase}
@@ -87,16 +87,3 @@ module _ (c : stream.Carried) (short : length (c .held) < heldRoom) where
   pub took-short : (b : ℕ) → length (took c b .carried .held) < heldRoom
   unfolding took
   took-short b = took-in-short (c .phase) b .few
-
-  ended-in-short : (p : Phase) → IsShort (endedIn p c)
-  unfolding endedIn
-  ended-in-short InHeader = refused-short Malformed c
-  ended-in-short (InImage come records) = refused-short Malformed c
-  ended-in-short (InRecords next records) =
-      pick-has IsShort (both (leb records next) (eqb (length (c .held)) 0)) (λ _. record { few = omega arith }) (λ _. refused-short Malformed c)
-  ended-in-short Over = record { few = short }
-
-  -- and at the end
-  pub ended-short : length (ended c .carried .held) < heldRoom
-  unfolding ended
-  ended-short = ended-in-short (c .phase) .few

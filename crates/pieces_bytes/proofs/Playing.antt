@@ -1,23 +1,22 @@
 -- Laws of a run of one record at most: over a malformed one it stands still, over another it is the step and the line. Assumes nothing.
-use mathlib.Core.Path.{_≡_, refl, sym, ap, _∙_}
+use mathlib.Core.Path.{_≡_, ap, _∙_}
 use mathlib.Core.Bool.{true, false}
 use mathlib.Core.List.{List, []}
-use Prim.Native.Nat.{ℕ, suc, _+_, _-_, _≤_, _<_}
+use Prim.Native.Nat.{ℕ, _+_, _-_, _≤_, _<_}
 use native.Mathlib.Omega.{arith}
 use lib.ListN.{length}
 use Rattle.bits.proofs.Tests.{split}
 use Rattle.model.specs.Map.{Image}
-use Rattle.model.specs.State.{State, stateWith}
+use Rattle.model.specs.State.{stateWith}
 use Rattle.model.specs.Work.{early}
-use Rattle.model.specs.Step.{Stepped, step}
+use Rattle.model.specs.Step.{step}
 use Rattle.model.specs.Outcome.{listRoom}
 use Rattle.model.specs.File.{firstEdition, recordLength, isRecord, eventOf}
 use Rattle.model.specs.Stream.{played, tookRecord, refused}
 use Rattle.model.specs.declared.answer.Answer.the-variants.{Malformed}
-use Rattle.model.specs.declared.lane.Working.{Working}
 use Rattle.model.specs.declared.stream.Phase.the-variants.{InRecords}
 use Rattle.night_text.specs.Buffer.{longestLine}
-use Rattle.pieces_records.specs.Running.{Running, canPlay, afterStep, runs, running}
+use Rattle.pieces_records.specs.Running.{Running, afterStep, runs, running}
 use Rattle.pieces_records.specs.declared.Played.{Played}
 use Rattle.pieces_records.proofs.Runs.{run-stops, run-plays, plays, malformed}
 use Rattle.pieces_bytes.specs.Carrying.{carriedBy, padded, kept, Leaves, LeavesOfAny}

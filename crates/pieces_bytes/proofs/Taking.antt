@@ -1,5 +1,5 @@
 -- Laws of what a byte brings, case by case, and of nothing printed. Assumes nothing.
-use mathlib.Core.Path.{_≡_, refl, sym, ap, _∙_}
+use mathlib.Core.Path.{_≡_, sym, ap, _∙_}
 use mathlib.Core.Bool.{true, false}
 use mathlib.Core.List.{List, []}
 use Prim.Native.Nat.{ℕ, suc, _≤_, _<_}
@@ -18,7 +18,7 @@ use Rattle.model.specs.Refusals.{firstOf, startRefusals}
 use Rattle.model.specs.Step.{step}
 use Rattle.model.specs.Outcome.{listRoom}
 use Rattle.model.specs.File.{imageOffset, recordCount, isHeader, firstEdition, recordLength, isRecord, eventOf}
-use Rattle.model.specs.Stream.{Carried, Took, countLimit, silent, entering, holding, refused, tookHeader, startedBy, tookImage, played, tookRecord, tookIn, took, endedIn, ended}
+use Rattle.model.specs.Stream.{Carried, countLimit, silent, entering, holding, refused, tookHeader, startedBy, tookImage, played, tookRecord, tookIn, took, endedIn, ended}
 use Rattle.model.specs.declared.answer.Answer.{Answer}
 use Rattle.model.specs.declared.answer.Answer.the-variants.{Malformed}
 use Rattle.model.specs.declared.stream.Phase.{Phase}

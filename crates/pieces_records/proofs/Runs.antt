@@ -1,12 +1,12 @@
 -- Laws of a run over records: where it stops, one record more, and what the code's tests say of it. Assumes nothing.
-use mathlib.Core.Path.{_≡_, refl, sym, ap, _∙_}
+use mathlib.Core.Path.{_≡_, refl, sym, _∙_}
 use mathlib.Core.Bool.{Bool, true, false, _||_}
 use mathlib.Core.List.{List}
-use Prim.Native.Nat.{ℕ, zero, suc, _+_, _-_, _≤_, _<_}
+use Prim.Native.Nat.{ℕ, zero, suc, _+_, _-_, _≤_}
 use native.Mathlib.Numerals.{add-one}
 use native.Mathlib.Omega.{arith}
-use lib.Dec.{ltb, leb}
-use lib.ListN.{length, take, drop, length-drop}
+use lib.Dec.{ltb}
+use lib.ListN.{length, drop, length-drop}
 use lib.Seq.{length-take-le}
 use borrow.Author.Tests.{ltb-true, ltb-false, le-leb, lt-leb}
 use Rattle.bits.specs.Choice.{either}
@@ -20,13 +20,8 @@ use Rattle.model.specs.File.{firstEdition, recordLength, isRecord, eventOf}
 use Rattle.night_file.proofs.Checks.{both-left, both-right}
 use Rattle.night_lines.specs.Lines.{Turns}
 use Rattle.night_lines.specs.declared.Reached.{Reached}
-use Rattle.pieces_records.specs.Running.{Running, recordAt, canPlay, afterStep, afterRecord, runs, running}
+use Rattle.pieces_records.specs.Running.{Running, recordAt, canPlay, afterStep, afterRecord, runs}
 use Rattle.night_text.specs.Buffer.{longestLine}
-use Rattle.pieces_records.specs.declared.Played.{Played}
-
--- the part of some bytes that a record is
-pub part-record : (taken : ℕ) (bytes : List ℕ) → take (taken + recordLength - taken) (drop taken bytes) ≡ recordAt taken bytes
-part-record taken bytes = let e : taken + recordLength - taken ≡ recordLength = omega arith in rw e
 
 pub record-length : (taken : ℕ) (bytes : List ℕ) → taken + recordLength ≤ length bytes → length (recordAt taken bytes) ≡ recordLength
 record-length taken bytes h = length-take-le recordLength (drop taken bytes) (omega (arith, length-drop taken bytes))

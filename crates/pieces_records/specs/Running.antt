@@ -1,6 +1,5 @@
 -- A run over records that lie whole in a row of bytes: one after the other, while the output has room for a longest line, up to one that is malformed.
 use Prim.Native.Nat.{ℕ, zero, suc, _+_}
-use mathlib.Core.Path.{_≡_}
 use mathlib.Core.Bool.{Bool}
 use mathlib.Core.List.{List}
 use lib.Dec.{leb}

@@ -1,10 +1,9 @@
 // A run over records that lie whole in a row of bytes: a piece's own, or the one that a cut has split and that was gathered.
 ghost use mathlib.Core.Path.{_≡_};
-ghost use Prim.Native.Nat.{_+_, _-_, _≤_, _<_};
+ghost use Prim.Native.Nat.{_-_, _≤_};
 ghost use lib.ListN.{length};
 ghost use Rattle.model.specs.Map.{imageLength};
 ghost use Rattle.pieces_records.specs.Running.{runs, running};
-ghost use Rattle.night_text.specs.Buffer.{longestLine};
 use access_limits::READ_LIMIT;
 use model::lane::Working;
 use night_file::RECORD_LENGTH;

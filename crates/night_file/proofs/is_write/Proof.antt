@@ -1,10 +1,8 @@
 -- `night_file::is_write` meets its contract: by how many bytes it writes. Assumes nothing.
 use native.Mathlib.Omega.{arith}
-use mathlib.Core.Path.{_≡_, ap, _∙_}
-use Prim.Native.Nat.{ℕ, _+_, _-_}
-use lib.Dec.{ltb}
+use mathlib.Core.Path.{_≡_}
+use Prim.Native.Nat.{_+_, _-_}
 use Rattle.model.specs.File.{writtenBytes}
-use Rattle.night_file.specs.Clear.{isClearFrom}
 use Rattle.night_file.proofs.Checks.{tail-below}
 use borrow.Author.Needs.{needs}
 use Rattle.night_file.proofs.is_write.Statement.{statement}

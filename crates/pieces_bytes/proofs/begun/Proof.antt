@@ -1,7 +1,6 @@
 -- `pieces_bytes::begun` meets its contract. Assumes nothing.
-use mathlib.Core.Path.{_∙_, ap}
 use Rattle.model.specs.Stream.{begun}
-use Rattle.pieces_bytes.specs.Carrying.{padded, kept}
+use Rattle.pieces_bytes.specs.Carrying.{kept}
 use borrow.Author.Needs.{needs}
 use Rattle.pieces_bytes.proofs.begun.Statement.{statement}
 use Rattle.pieces_bytes.proofs.begun.Tie as tie

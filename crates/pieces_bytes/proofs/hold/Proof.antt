@@ -1,10 +1,6 @@
 -- `pieces_bytes::hold` meets its contract. Assumes nothing.
-use mathlib.Core.Path.{refl, sym, ap, _∙_}
-use mathlib.Core.List.{[], _∷_}
-use native.Mathlib.Omega.{arith}
-use lib.ListN.{length-append}
-use Rattle.pieces_bytes.specs.Carrying.{heldIn, carriedBy, padded, kept}
-use Rattle.pieces_bytes.proofs.Holding.{held-short, tidy-more}
+use mathlib.Core.Path.{refl}
+use Rattle.pieces_bytes.proofs.Holding.{tidy-more}
 use borrow.Author.Needs.{needs}
 use Rattle.pieces_bytes.proofs.hold.Statement.{statement}
 use Rattle.pieces_bytes.proofs.hold.Tie as tie

@@ -1,5 +1,4 @@
 -- `pieces_bytes::start` meets its contract. Assumes nothing.
-use mathlib.Core.Path.{refl, sym, ap, _∙_}
 use borrow.Author.Tests.{eq-eqb, ne-eqb}
 use Rattle.model.specs.Answers.{isDone}
 use Rattle.model.specs.Start.{startedState}

@@ -1,5 +1,5 @@
 -- `pieces_bytes::take_image` meets its contract. Assumes nothing.
-use mathlib.Core.Path.{refl, sym, ap, _∙_}
+use mathlib.Core.Path.{_∙_}
 use lib.ListN.{set}
 use native.Mathlib.Numerals.{add-one}
 use native.Mathlib.Omega.{arith}

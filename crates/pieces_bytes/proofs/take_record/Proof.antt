@@ -1,6 +1,6 @@
 -- `pieces_bytes::take_record` meets its contract. Assumes nothing.
 use native.Mathlib.Omega.{arith}
-use mathlib.Core.Path.{_≡_, refl, _∙_}
+use mathlib.Core.Path.{refl}
 use mathlib.Core.List.{[], _∷_, _++_}
 use Prim.Native.Nat.{_≤_, _<_}
 use lib.ListN.{length, length-append, length-set}

@@ -1,6 +1,6 @@
 -- `pieces_bytes::tidied` meets its contract. The loop's invariant: the bytes passed, and zeros after them. Assumes nothing.
 use native.Mathlib.Omega.{arith}
-use mathlib.Core.Path.{_≡_, refl, _∙_}
+use mathlib.Core.Path.{_≡_, refl}
 use mathlib.Core.List.{_++_}
 use Prim.Native.Nat.{ℕ, _-_, _≤_}
 use lib.ListN.{length-map}

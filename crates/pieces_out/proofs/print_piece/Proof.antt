@@ -3,8 +3,6 @@ use native.Mathlib.Omega.{arith}
 use mathlib.Core.Path.{_≡_, _∙_}
 use Prim.Native.Nat.{_-_, _≤_}
 use lib.ListN.{length}
-use Rattle.model.specs.Map.{imageLength}
-use Rattle.night_text.specs.Buffer.{longestLine}
 use borrow.Author.Needs.{needs}
 use Rattle.pieces_out.proofs.print_piece.Statement.{statement}
 use Rattle.pieces_out.proofs.print_piece.Tie as tie

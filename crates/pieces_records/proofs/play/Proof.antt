@@ -9,12 +9,13 @@ use borrow.Author.Tests.{not-true, not-false}
 use Rattle.model.specs.Map.{Image, imageLength}
 use Rattle.model.specs.Access.{readLimit}
 use Rattle.model.specs.State.{stateWith}
+use Rattle.night_file.proofs.Checks.{part-from}
 use Rattle.night_text.proofs.Laid.{puts-within}
 use Rattle.night_text.proofs.Lines.{length-any-index}
 use Rattle.pieces_records.specs.Running.{Running, canPlay, runs, running}
 use Rattle.pieces_records.specs.declared.Played.{Played}
 use Rattle.night_lines.specs.declared.Reached.{Reached}
-use Rattle.pieces_records.proofs.Runs.{part-record, record-length, run-stops, run-plays, enough, lacks, plays, malformed, after-turn}
+use Rattle.pieces_records.proofs.Runs.{record-length, run-stops, run-plays, enough, lacks, plays, malformed, after-turn}
 use borrow.Author.Needs.{needs}
 use Rattle.pieces_records.proofs.play.Statement.{statement}
 use Rattle.pieces_records.proofs.play.Tie as tie
@@ -59,14 +60,14 @@ returns-2 c =
     let bytes = c .before .before .before .before .before .before .before .before .before .before .before .before .args .bytes .now in
     let r = stood (l .image) (l .out) (l .taken) (l .reached) (l .k) in
     let wrong = sym (c .before .before .is-record .ensures) ∙ not-true _ (c .before .if2 .taken) in
-    stopped _ r bytes (ap (λ (p : Played). running p (l .image) (l .out)) (c .standing-at2 .ensures)) (malformed r bytes (rw (part-record (l .taken) bytes) at wrong)) (l .inv .6)
+    stopped _ r bytes (ap (λ (p : Played). running p (l .image) (l .out)) (c .standing-at2 .ensures)) (malformed r bytes (rw (part-from (l .taken) bytes) at wrong)) (l .inv .6)
 
 turn-requires : tie.Need-turn-requires Inv-loop μ-loop
 turn-requires c κs =
     let bytes = c .before .before .before .before .before .before .before .before .before .before .before .before .before .before .args .bytes .now in
     let l = c .before .before .before .before .before .before .before .before .before .loop in
     let h = enough (stood (l .image) (l .out) (l .taken) (l .reached) (l .k)) bytes (l .inv .4) (l .inv .5) (c .before .before .before .before .before .before .if1 .left) in
-    (l .inv .1, l .inv .2, rw (part-record (l .taken) bytes) (omega (arith, record-length (l .taken) bytes (h .0))), omega (arith, length-any-index (l .k)))
+    (l .inv .1, l .inv .2, rw (part-from (l .taken) bytes) (omega (arith, record-length (l .taken) bytes (h .0))), omega (arith, length-any-index (l .k)))
 
 loop-again : tie.Need-loop-again Inv-loop μ-loop
 loop-again c =
@@ -85,8 +86,8 @@ loop-again c =
       t .kept .1 .1 .1 .1 .1 .0 ∙ i .3,
       h .0,
       puts-within (omega arith) (t .kept .1 .1 .1 .1 .1 .0) (t .ensures .text),
-      ap (λ (r : Running). runs (a .records - (l .k + 1)) r bytes) (sym (after-turn (l .taken) (l .k) (l .reached) (t .result) (l .image) _ _ _ (l .out) _ _ (rw (part-record (l .taken) bytes) at (t .ensures))))
-          ∙ sym (run-plays r bytes _ (plays r bytes (h .0) (h .1) (rw (part-record (l .taken) bytes) at good)))
+      ap (λ (r : Running). runs (a .records - (l .k + 1)) r bytes) (sym (after-turn (l .taken) (l .k) (l .reached) (t .result) (l .image) _ _ _ (l .out) _ _ (rw (part-from (l .taken) bytes) at (t .ensures))))
+          ∙ sym (run-plays r bytes _ (plays r bytes (h .0) (h .1) (rw (part-from (l .taken) bytes) at good)))
           ∙ (rw e at (i .6)),
     )
 
