@@ -3,6 +3,7 @@ pub mod Tests
 pub mod Number
 pub mod Places
 pub mod Loops
+pub mod Members
 pub mod Lanes
 pub mod Masks
 pub mod Sets

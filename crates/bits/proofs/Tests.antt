@@ -126,6 +126,11 @@ unfolding either pick
 either-pick true b = refl
 either-pick false b = refl
 
+pub either-assoc : (a b c : Bool) → either (either a b) c ≡ either a (either b c)
+unfolding either
+either-assoc true b c = refl
+either-assoc false b c = refl
+
 pub either-none : (t : Bool) → either t false ≡ t
 unfolding either
 either-none true = refl

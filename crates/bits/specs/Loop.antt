@@ -2,6 +2,8 @@
 use Prim.Native.Nat.{ℕ, zero, suc}
 use mathlib.Core.Bool.{Bool, true, false}
 use mathlib.Core.List.{List, [], _∷_}
+use mathlib.Core.Logic.{_⊎_}
+use mathlib.Core.Path.{_≡_}
 use Rattle.bits.specs.Choice.{pick, onlyIf, both, either}
 
 -- the change f at each number below n that passes the test
@@ -18,6 +20,16 @@ tab (suc n) f = f 0 ∷ tab n (λ k. f (suc k))
 unfoldable pub anyBelow : ℕ → (ℕ → Bool) → Bool
 anyBelow zero p = false
 anyBelow (suc n) p = either (anyBelow n p) (p n)
+
+-- a value is one of a list's
+unfoldable pub Among : {A : Type 0} → A → List A → Type 0
+Among a [] = ⊥
+Among a (b ∷ rest) = (a ≡ b) ⊎ Among a rest
+
+-- a value of a list passes the test
+unfoldable pub anyOf {ℓ} : {A : Type ℓ} → List A → (A → Bool) → Bool
+anyOf [] p = false
+anyOf (a ∷ rest) p = either (p a) (anyOf rest p)
 
 -- every number below n passes the test
 unfoldable pub allBelow : ℕ → (ℕ → Bool) → Bool

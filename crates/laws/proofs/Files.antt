@@ -1,6 +1,6 @@
 -- A header and a record are refused exactly when they have a fault; a night file, with any limit of records, is answered 9 exactly when it has
 -- a fault, and else what start answers to its image (01 "The night file"). Assumes nothing.
-use mathlib.Core.Path.{_≡_, refl, ap, subst}
+use mathlib.Core.Path.{_≡_, refl, sym, ap, _∙_, subst}
 use mathlib.Core.Bool.{Bool, true, false, not}
 use mathlib.Core.List.{List}
 use mathlib.Core.Logic.{_↔_, _≢_}
@@ -8,7 +8,7 @@ use Prim.Native.Nat.{ℕ, zero, suc, _+_, _*_, _≤_, _<_}
 use native.Mathlib.Decide.{ℕ-discrete}
 use native.Mathlib.Omega.{arith}
 use lib.Dec.{ltb}
-use lib.ListN.{length, getD, take, drop, length-take, length-drop}
+use lib.ListN.{length, getD}
 use borrow.Author.Tests.{ltb-true, ltb-false, leb-true, leb-false, eqb-true, eqb-false, lt-ltb, le-leb, eq-eqb, ne-eqb}
 use Rattle.bits.specs.Choice.{pick, both, implies}
 use Rattle.bits.specs.Loop.{allBelow}
@@ -18,10 +18,11 @@ use Rattle.model.specs.Map.{imageLength}
 use Rattle.model.specs.Answers.{number, isDone}
 use Rattle.model.specs.Refusals.{firstOf, isFlat, isBackToFront, wrongLength, imageRefusals, startRefusals}
 use Rattle.model.specs.Outcome.{startOutcomeBy, startOutcome}
-use Rattle.model.specs.File.{firstForms, firstEdition, recordsOffset, recordLength, imageOffset, recordCount, isHeader, isWholeLength, imageIn, recordIn, kindOf, writeKind, readKind, workKind, hardwareKind, conditionKind, sampleKind, dataLimit, writtenBytes, usedBytes, isRecord, isWellFormed, fileCheckBy, fileCheckUpTo}
+use Rattle.model.specs.File.{firstForms, firstEdition, editionOf, recordsOffset, recordLength, recordCount, isHeader, isWholeLength, carriedImage, imageIn, recordIn, kindOf, writeKind, readKind, workKind, hardwareKind, conditionKind, sampleKind, dataLimit, writtenBytes, usedBytes, isRecord, isWellFormed, fileCheckBy, fileCheckUpTo}
 use Rattle.model.specs.declared.answer.Answer.the-variants.{WrongLength, FlatMemory, Malformed, BackToFront}
 use Rattle.model.specs.declared.file.FileCheck.{FileCheck}
 use Rattle.model.specs.declared.file.FileCheck.the-variants.{Refused, Good}
+use Rattle.model.proofs.Editions.{records-alike, length-laid-out}
 use Rattle.laws.specs.Files.{NotListed, Unused, pastCount, pastData, pastRead, pastWork, pastHardware, pastCondition, pastSample, RecordFault, noSuchKind, unusedByte, HeaderFault, firstLetter, secondLetter, otherEdition, notZero, tooMany, imageElsewhere, recordsElsewhere, Fault, inHeader, otherLength, inRecord, Found, malformed, flat, backToFront, good}
 
 -- ---- tests that fail
@@ -181,13 +182,22 @@ numberIn (Refused a) = number a
 numberIn (Good n) = 0
 
 module _ (limit : ℕ) (file : List ℕ) where
+  -- its edition's records are those of the first
+  alike : (k : ℕ) → isRecord (editionOf file) (recordIn file k) ≡ isRecord firstEdition (recordIn file k)
+  alike k = records-alike (getD file 2 0) (recordIn file k)
+
+  -- its image has the right length
+  its-image : wrongLength (imageIn file) ≡ false
+  unfolding wrongLength
+  its-image = ap not (eq-eqb (length (imageIn file)) imageLength (length-laid-out (carriedImage file)))
+
   -- where it fails ..
   a-fault : isWellFormed limit file ≡ false → Fault limit file
   unfolding isWellFormed isWholeLength
   a-fault =
       both-fails _ _
       (both-fails _ _ (λ e. inHeader (header-exactly limit file .0 e)) (λ e. otherLength (eqb-false _ _ e)))
-      (λ e. let r = all-fails (recordCount file) _ e in inRecord (r .0) (r .1) (record-exactly (recordIn file (r .0)) .0 (r .2)))
+      (λ e. let r = all-fails (recordCount file) _ e in inRecord (r .0) (r .1) (record-exactly (recordIn file (r .0)) .0 (sym (alike (r .0)) ∙ r .2)))
 
   -- .. and where it holds
   module _ (formed : isWellFormed limit file ≡ true) where
@@ -195,26 +205,20 @@ module _ (limit : ℕ) (file : List ℕ) where
     unfolding isWellFormed
     its-header = both-l _ _ (both-l _ _ formed)
 
-    its-length : length file ≡ recordsOffset firstEdition + recordLength * recordCount file
+    its-length : length file ≡ recordsOffset (editionOf file) + recordLength * recordCount file
     unfolding isWellFormed isWholeLength
     its-length = eqb-true _ _ (both-r _ _ (both-l _ _ formed))
 
     its-record : (k : ℕ) → k < recordCount file → isRecord firstEdition (recordIn file k) ≡ true
     unfolding isWellFormed
-    its-record = all-at _ _ (both-r _ _ formed)
+    its-record k b = sym (alike k) ∙ all-at _ _ (both-r _ _ formed) k b
 
     no-fault : Fault limit file → ⊥
     no-fault (inHeader f) = clash its-header (header-exactly limit file .1 f)
     no-fault (otherLength n) = n its-length
     no-fault (inRecord k b f) = clash (its-record k b) (record-exactly (recordIn file k) .1 f)
 
-    -- so its image has the right length ..
-    its-image : wrongLength (imageIn file) ≡ false
-    unfolding wrongLength imageIn
-    its-image = ap not (eq-eqb (length (take imageLength (drop imageOffset file))) imageLength
-        (omega (arith, length-take imageLength (drop imageOffset file), length-drop imageOffset file, its-length)))
-
-    -- .. and what start asks of it is what is found
+    -- what start asks of its image is what is found
     found-flat : isFlat (imageIn file) ≡ true → fileCheckUpTo limit file ≡ Refused FlatMemory
     unfolding fileCheckUpTo fileCheckBy startRefusals imageRefusals firstOf isDone pick
     found-flat e = rw (formed, its-image, e)

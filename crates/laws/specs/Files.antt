@@ -8,7 +8,7 @@ use Prim.Native.Nat.{ℕ, _+_, _*_, _≤_, _<_}
 use lib.ListN.{length, getD}
 use Rattle.bits.specs.Word.{word}
 use Rattle.model.specs.Refusals.{isFlat, isBackToFront}
-use Rattle.model.specs.File.{firstEdition, imageOffset, recordsOffset, recordLength, recordCount, imageIn, recordIn, kindOf, writeKind, readKind, workKind, hardwareKind, conditionKind, sampleKind, dataStart, dataLimit}
+use Rattle.model.specs.File.{editionOf, imageOffset, recordsOffset, recordLength, recordCount, imageIn, recordIn, kindOf, writeKind, readKind, workKind, hardwareKind, conditionKind, sampleKind, dataStart, dataLimit}
 use Rattle.model.specs.declared.answer.Answer.the-variants.{FlatMemory, Malformed, BackToFront}
 use Rattle.model.specs.declared.file.FileCheck.{FileCheck}
 use Rattle.model.specs.declared.file.FileCheck.the-variants.{Refused, Good}
@@ -42,16 +42,16 @@ pub data RecordFault (bytes : List ℕ) : Type 0 where
 pub data HeaderFault (limit : ℕ) (header : List ℕ) : Type 0 where
   firstLetter : getD header 0 0 ≢ 0x57 → HeaderFault limit header
   secondLetter : getD header 1 0 ≢ 0x4c → HeaderFault limit header
-  otherEdition : getD header 2 0 ≢ firstEdition .number → HeaderFault limit header
+  otherEdition : getD header 2 0 ≢ editionOf header .number → HeaderFault limit header
   notZero : getD header 3 0 ≢ 0 → HeaderFault limit header
   tooMany : limit < recordCount header → HeaderFault limit header
   imageElsewhere : word 4 header 8 ≢ imageOffset → HeaderFault limit header
-  recordsElsewhere : word 4 header 12 ≢ recordsOffset firstEdition → HeaderFault limit header
+  recordsElsewhere : word 4 header 12 ≢ recordsOffset (editionOf header) → HeaderFault limit header
 
 -- a fault of a file: in its header, in its length, in a record
 pub data Fault (limit : ℕ) (file : List ℕ) : Type 0 where
   inHeader : HeaderFault limit file → Fault limit file
-  otherLength : length file ≢ recordsOffset firstEdition + recordLength * recordCount file → Fault limit file
+  otherLength : length file ≢ recordsOffset (editionOf file) + recordLength * recordCount file → Fault limit file
   inRecord : (k : ℕ) → k < recordCount file → RecordFault (recordIn file k) → Fault limit file
 
 -- what is found of a file: 9 where it has a fault; else 2 and 10 as start of its image has them; else it is good

@@ -97,7 +97,7 @@ triggered-well two t base s sel W = pick-well two (isIgnored t (s .image)) _ _ (
 
 -- ---- written bytes
 
-stored-well : (two i v : ℕ) (s : State) → Well two s → Well two (storedState i v s)
+pub stored-well : (two i v : ℕ) (s : State) → Well two s → Well two (storedState i v s)
 unfolding storedState
 stored-well two i v s W =
     pick-well two (eqb i pageSelect) _ _ (λ e. quiet-well two (s .image) _ (s .working) (selected-quiet v (s .image)) W)

@@ -20,7 +20,7 @@ use Rattle.model.specs.declared.lane.Working.{Working}
 use Rattle.laws_step.specs.Changes.{orIn, inBytes, statusSet}
 use Rattle.laws_step.specs.Told.{amid, writtenBytes, writeSet}
 use Rattle.laws_step.proofs.Frames.{neither, unless, keeps-byte, lanes-bytes}
-use Rattle.laws_step.proofs.Places.{writable-in}
+use Rattle.laws_step.proofs.Places.{writable-in, writable-out}
 use Rattle.laws_step.proofs.Bytes.{Written, part-written, place-past, place-moves}
 
 -- bytes written in two parts, one after the other
@@ -59,7 +59,7 @@ earlier-stays : (i to : ℕ) (v w : Working) (b : ℕ) → writable i ≡ true �
 unfolding writeSet orIn inBytes statusSet
 earlier-stays i to v w b e q = neither
     (unless (earlier-bytes i to e q))
-    (unless (λ t. let r = lanes-bytes _ _ 4 i b refl t in omega (arith, writable-in i e)))
+    (unless (λ t. let r = lanes-bytes _ _ 4 i b refl t in writable-out i e (omega arith) (omega arith)))
 
 -- the bytes after it, if there are any, begin at the next place
 after-it : (a i : ℕ) (rest : List ℕ) (z : State) → (0 < length rest → (indexOf (z .image) a ≡ suc i) × (a + length rest ≤ halfEnd a) × (128 ≤ a → 128 ≤ suc i))

@@ -1,25 +1,29 @@
 -- The page rule: what a write that includes 127 leaves in 126 and 127. Assumes nothing.
-use mathlib.Core.Path.{_≡_, refl, ap, _∙_}
+use mathlib.Core.Path.{_≡_, refl, sym, ap, _∙_}
 use mathlib.Core.Bool.{Bool, true, false}
 use mathlib.Core.List.{List, [], _∷_}
-use mathlib.Core.Logic.{_⊎_, inl, inr}
+use mathlib.Core.Logic.{inl, inr}
 use Prim.Native.Nat.{ℕ, zero, suc, _+_, _-_, _≤_, _<_}
 use native.Mathlib.Omega.{arith}
 use lib.Dec.{eqb, ltb}
 use lib.ListN.{length, getD, set, take, length-set}
 use lib.Seq.{getD-set-same, getD-set-other, length-take-le, take-suc}
-use borrow.Author.Tests.{eqb-true, eqb-false, le-ltb, lt-ltb, le-leb, lt-leb}
+use borrow.Author.Tests.{eqb-true, eq-eqb, ltb-true, lt-ltb, le-leb, lt-leb}
 use Rattle.bits.specs.Choice.{pick, both, either, implies}
-use Rattle.bits.proofs.Tests.{split, clash}
-use Rattle.model.specs.Map.{Image, imageLength, bankSelect, pageSelect, inRanges, writable, page10, page11}
+use Rattle.bits.specs.Loop.{anyBelow, anyOf}
+use Rattle.bits.proofs.Tests.{clash, bool-eq, either-assoc, either-none}
+use Rattle.bits.proofs.Loops.{any-one, any-find}
+use Rattle.bits.proofs.Members.{any-of-i}
+use Rattle.model.specs.Map.{Image, imageLength, bankSelect, pageSelect, inRanges, writable}
 use Rattle.model.specs.State.{State, withImage}
-use Rattle.model.specs.Pages.{findPage, pageStart, indexOf, withPage, selectedImage}
+use Rattle.model.specs.Pages.{pages, pageStart, indexOf, withPage, selectedImage}
 use Rattle.model.specs.Access.{storedState, byteWrittenState, bytesWrittenState, halfEnd}
 use Rattle.model.specs.Flags.{settledImage}
 use Rattle.model.specs.Step.{event, eventEffect, doneStep}
 use Rattle.model.specs.declared.answer.Answer.the-variants.{Done}
 use Rattle.model.specs.declared.event.Call.the-variants.{Write}
 use Rattle.model.specs.declared.page.PageStart.the-variants.{Unsupported, At}
+use Rattle.model.proofs.Starts.{isPage, found}
 use Rattle.laws_step.specs.Told.{stepOn, isSupported, bankAt, PageRule}
 use Rattle.laws_step.proofs.Settling.{settled-byte}
 use Rattle.laws_step.proofs.Stepped.{done-step}
@@ -27,31 +31,41 @@ use Rattle.laws_step.proofs.Bytes.{lower-written}
 use Rattle.laws_step.proofs.Middle.{bytes-append, in-the-middle}
 use Rattle.laws_step.proofs.Writing.{in-half}
 
--- the lookup finds the pages that are supported, and no other
-Found : ℕ → ℕ → Type 0
-Found bank page =
-    ((isSupported bank page ≡ true) × (start : ℕ) × (pageStart bank page ≡ At start)) ⊎ ((isSupported bank page ≡ false) × (pageStart bank page ≡ Unsupported))
+-- ---- the lookup finds the pages that are supported, and no other
 
-both-no : (b : Bool) → both b false ≡ false
+both-always : (a : Bool) → both a true ≡ a
 unfolding both
-both-no true = refl
-both-no false = refl
+both-always true = refl
+both-always false = refl
 
-page-found : (bank page : ℕ) → Found bank page
-unfolding Found isSupported pageStart findPage pick both either implies
-page-found bank page = split (eqb page 0)
-    (λ a. inl (rw (eqb-true page 0 a), 128, rw (eqb-true page 0 a)))
-    (λ a. split (eqb page 1) (λ b. inl (rw (eqb-true page 1 b), 256, rw (eqb-true page 1 b)))
-    (λ b. split (eqb page 2) (λ c. inl (rw (eqb-true page 2 c), 384, rw (eqb-true page 2 c)))
-    (λ c. let l : ltb page 3 ≡ false = le-ltb page 3 (omega (arith, eqb-false page 0 a, eqb-false page 1 b, eqb-false page 2 c)) in
-    split (eqb bank 0)
-    (λ z. split (eqb page 16) (λ d. inl (rw (l, z, d, either, both), page10, rw (a, b, c, d, z, both, implies, pick)))
-    (λ d. split (eqb page 17)
-    (λ e. inl (rw (l, z, d, e, either, both), page11, rw (a, b, c, d, e, z, both, implies, pick)))
-    (λ e. inr (rw (l, z, d, e, either, both), rw (a, b, c, d, e, both, pick)))))
-    (λ z. inr (rw (l, z, either, both), rw (a, b, c, z, both-no (eqb page 16), both-no (eqb page 17), both, pick))))))
+both-swap : (a b : Bool) → both a b ≡ both b a
+unfolding both
+both-swap true b = sym (both-always b)
+both-swap false true = refl
+both-swap false false = refl
 
--- bytes 126 and 127 after it
+either-both : (a b c : Bool) → both (either a b) c ≡ either (both a c) (both b c)
+unfolding both either
+either-both true b true = refl
+either-both true true false = refl
+either-both true false false = refl
+either-both false b c = refl
+
+both-either : (a b c : Bool) → both a (either b c) ≡ either (both b a) (both c a)
+both-either a b c = both-swap a (either b c) ∙ either-both b c a
+
+-- a number below n is one of them
+ltb-any : (n k : ℕ) → ltb k n ≡ anyBelow n (eqb k)
+ltb-any n k = bool-eq _ _
+    (λ e. any-one n (eqb k) k (ltb-true k n e) (eq-eqb k k refl))
+    (λ e. let f = any-find n (eqb k) e in lt-ltb k n (omega (arith, eqb-true k (f .0) (f .2))))
+
+supported-listed : (bank page : ℕ) → isSupported bank page ≡ anyOf pages (isPage bank page)
+unfolding isSupported isPage anyOf anyBelow either implies
+supported-listed bank page = rw (ltb-any 3 page) (simp (either-assoc, both-always, both-either, either-both, either-none) refl)
+
+-- ---- bytes 126 and 127 after a byte v to 127
+
 module _ (x : Image) (v : ℕ) (size : length x ≡ imageLength) where
   found-page : (start : ℕ) → pageStart (getD x 126 0) v ≡ At start → (getD (selectedImage v x) 127 0 ≡ v) × (getD (selectedImage v x) 126 0 ≡ getD x 126 0)
   unfolding selectedImage
@@ -68,10 +82,13 @@ module _ (x : Image) (v : ℕ) (size : length x ≡ imageLength) where
   )
 
   rule : PageRule (getD x 126 0) v (selectedImage v x)
-  unfolding Found
-  rule = elim (page-found (getD x 126 0) v) [
-    | inl f ↦ record { supported = λ e. found-page (f .1) (f .2); otherwise = λ e. absurd (clash (f .0) e) }
-    | inr f ↦ record { supported = λ e. absurd (clash e (f .0)); otherwise = λ e. reset-page (f .1) }
+  unfolding pageStart
+  rule = let l = supported-listed (getD x 126 0) v in elim (found (getD x 126 0) v pages) [
+    | inl (p, m, t, f) ↦ record {
+      supported = λ e. found-page (p .start) f;
+      otherwise = λ e. absurd (clash (any-of-i _ pages p m t) (sym l ∙ e));
+    }
+    | inr (n, f) ↦ record { supported = λ e. absurd (clash (sym l ∙ e) n); otherwise = λ e. reset-page f }
   ]
 
   rule-settled : PageRule (getD x 126 0) v (settledImage (selectedImage v x))

@@ -37,7 +37,7 @@ use Rattle.model.specs.declared.lane.Working.{Working}
 use Rattle.laws.proofs.Unchanged.{done-is}
 use Rattle.laws_step.specs.Changes.{Bits, ChangesOnly, orIn, inBytes, inLanes, interruptSet, statusSet, stateSet, flagSet, pendingSet, activeOf}
 use Rattle.laws_step.specs.Told.{stepOn, Reserved, Kept, amid, clearedBy, writtenBytes, writeSet, pathSet, sampleSet}
-use Rattle.laws_step.proofs.Places.{writable-in, clearing-in, condition-in}
+use Rattle.laws_step.proofs.Places.{writable-out, clearing-in, condition-in}
 use Rattle.laws_step.proofs.Frames.{neither, unless, keeps-byte, lanes-bytes}
 use Rattle.laws_step.proofs.Settling.{past-interrupt}
 use Rattle.laws_step.proofs.Stepped.{not-refused, none-refused, refused-step}
@@ -84,7 +84,7 @@ free-written : (from to : ℕ) (v w : Working) → Free (writeSet from to v w)
 unfolding writeSet writtenBytes statusSet
 free-written from to v w = free-or _ _
     (free-bytes _ (λ i r. neither
-    (unless (λ t. let k = writable-in i (both-l _ _ t) in let q = reserved-at i r in omega arith))
+    (unless (λ t. let q = reserved-at i r in writable-out i (both-l _ _ t) (omega arith) (omega arith)))
     (unless (λ t. let q = reserved-at i r in elim (either-cases (eqb i 126) (eqb i 127) (both-r _ _ t)) [
       | inl e ↦ omega (arith, eqb-true i 126 e)
       | inr e ↦ omega (arith, eqb-true i 127 e)

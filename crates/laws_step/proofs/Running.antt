@@ -1,25 +1,26 @@
 -- What holds after every event: lower 3.0 follows the flags, and after any calls from start 11h:215-216 are 0. Assumes nothing.
 use mathlib.Core.Path.{_≡_, refl, sym, ap, _∙_}
-use mathlib.Core.Bool.{true, false, not}
+use mathlib.Core.Bool.{Bool, false, not}
 use mathlib.Core.List.{List}
 use mathlib.Core.Logic.{_↔_, inl, inr}
-use Prim.Native.Nat.{ℕ, _+_, _<_}
+use Prim.Native.Nat.{ℕ, _<_}
 use native.Mathlib.Omega.{arith}
-use lib.Dec.{eqb}
+use lib.Dec.{eqb, ltb}
 use lib.ListN.{length, getD}
-use borrow.Author.Tests.{eqb-true, not-true}
+use borrow.Author.Tests.{eqb-true, ltb-true, not-true, not-false}
 use Rattle.bits.specs.Choice.{pick, both, either}
-use Rattle.bits.specs.Loop.{allBelow}
+use Rattle.bits.specs.Loop.{tab, anyOf, Among}
 use Rattle.bits.specs.Number.{field}
 use Rattle.bits.specs.Place.{get, digit}
 use Rattle.bits.proofs.Tests.{split, clash, both-l, both-r, pick-false}
 use Rattle.bits.proofs.Number.{field-past}
-use Rattle.bits.proofs.Loops.{all-at, tab-at, length-tab, none-any}
-use Rattle.model.specs.Map.{Image, imageLength, interruptBit, kept, inRanges, flagBytes}
+use Rattle.bits.proofs.Loops.{tab-at, length-tab}
+use Rattle.bits.proofs.Members.{any-of-none}
+use Rattle.model.specs.Map.{Image, imageLength, interruptBit, FlagPair, flagPairs, inRanges, kept}
 use Rattle.model.specs.Answers.{isDone}
 use Rattle.model.specs.State.{State}
 use Rattle.model.specs.Work.{early}
-use Rattle.model.specs.Flags.{isUnmasked, interrupts, settledImage}
+use Rattle.model.specs.Flags.{interrupts, settledImage}
 use Rattle.model.specs.Start.{isStateByte, startValue, startByte, startedState}
 use Rattle.model.specs.Step.{step, doneStep, eventEffect}
 use Rattle.model.specs.Outcome.{startOutcome}
@@ -28,7 +29,8 @@ use Rattle.model.specs.declared.event.Event.{Event}
 use Rattle.laws.specs.Calls.{Called, stateAfter}
 use Rattle.laws.proofs.Unchanged.{done-is}
 use Rattle.laws_step.specs.Told.{UnmaskedFlag, Reserved, Settled}
-use Rattle.laws_step.proofs.Settling.{settled-changes, settled-if, settled-bit, settled-twice}
+use Rattle.laws_step.proofs.Frames.{unless}
+use Rattle.laws_step.proofs.Settling.{settled-changes, settled-if, unmasked, settled-bit, settled-twice}
 use Rattle.laws_step.proofs.Stepped.{done-step, refused-step}
 use Rattle.laws_step.proofs.Reserving.{step-kept}
 use Rattle.laws_step.proofs.Calling.{calls-from-start}
@@ -54,24 +56,32 @@ module _ (room : ℕ) (s : State) (e : Event) where
 
 -- ---- start
 
+-- start clears a byte
+unfoldable clears : ℕ → Bool
+clears i = both (ltb i imageLength) (both (not (kept i)) (eqb (startValue i) 0))
+
 module _ (x : Image) where
   start-byte : (i : ℕ) → i < imageLength → getD (startedState x .image) i 0 ≡ startByte x i
   unfolding startedState
   start-byte i h = tab-at imageLength (startByte x) i 0 h
 
   -- start clears every flag byte
-  flags-cleared : allBelow 20 (λ k. both (not (kept (flagBytes + k))) (eqb (startValue (flagBytes + k)) 0)) ≡ true
-  unfolding allBelow both either kept inRanges startValue isStateByte pick
+  flags-cleared : anyOf flagPairs (λ p. not (clears (p .flag))) ≡ false
+  unfolding clears anyOf tab both either kept inRanges startValue isStateByte pick
   flags-cleared = refl
 
-  start-flag : (k : ℕ) → k < 20 → getD (startedState x .image) (flagBytes + k) 0 ≡ 0
-  unfolding startByte
-  start-flag k h = let t = all-at 20 _ flags-cleared k h in
-      start-byte (flagBytes + k) (omega arith) ∙ pick-false _ _ (not-true _ (both-l _ _ t)) ∙ eqb-true _ _ (both-r _ _ t)
+  start-flag : (p : FlagPair) → Among p flagPairs → getD (startedState x .image) (p .flag) 0 ≡ 0
+  unfolding clears startByte
+  start-flag p m =
+      let t = not-false _ (any-of-none _ flagPairs p flags-cleared m) in
+      start-byte (p .flag) (ltb-true _ _ (both-l _ _ t)) ∙ pick-false _ _ (not-true _ (both-l _ _ (both-r _ _ t))) ∙ eqb-true _ _ (both-r _ _ (both-r _ _ t))
 
   start-quiet : interrupts (startedState x .image) ≡ false
-  unfolding interrupts isUnmasked digit both
-  start-quiet = none-any 20 _ (λ k h. none-any 8 _ (λ b c. rw (start-flag k h, field-past 0 0 b 1 (omega arith) (omega arith), both)))
+  unfolding digit
+  start-quiet = unless (λ e.
+      let u = unmasked (startedState x .image) .0 e in
+      let z : field 0 (u .bit) 1 ≡ 1 = (rw (start-flag (u .pair) (u .listed)) at (u .isSet)) in
+      omega (arith, field-past 0 0 (u .bit) 1 (omega arith) (omega arith)))
 
   start-interrupt : get (startedState x .image) interruptBit ≡ 1
   unfolding get field startByte startValue kept inRanges both either pick

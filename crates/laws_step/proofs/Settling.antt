@@ -1,22 +1,59 @@
 -- Settling lower 3.0: it changes that bit alone, and the bit is 0 exactly when an unmasked flag bit is 1. Assumes nothing.
-use mathlib.Core.Path.{_≡_, sym, ap, _∙_}
-use mathlib.Core.Bool.{true, false}
+use mathlib.Core.Path.{_≡_, refl, sym, ap, _∙_}
+use mathlib.Core.Bool.{Bool, true, false, not}
+use mathlib.Core.List.{List, [], _∷_}
 use mathlib.Core.Logic.{_↔_}
-use Prim.Native.Nat.{ℕ, _+_, _<_}
+use Prim.Native.Nat.{ℕ, _+_, _≤_, _<_}
 use native.Mathlib.Omega.{arith}
 use lib.ListN.{length, getD}
-use borrow.Author.Tests.{eqb-true, eq-eqb, ne-eqb}
-use Rattle.bits.specs.Choice.{pick, both}
+use borrow.Author.Tests.{eqb-true, eq-eqb, ne-eqb, le-leb, not-true}
+use Rattle.bits.specs.Choice.{pick, both, either}
 use Rattle.bits.specs.Lane.{laneField}
+use Rattle.bits.specs.Loop.{tab, anyOf}
 use Rattle.bits.specs.Place.{get, put, digit, covers}
-use Rattle.bits.proofs.Tests.{split, both-l, both-r, both-i}
-use Rattle.bits.proofs.Places.{digit-put-out, get-put-fits, put-put, put-got, covers-in}
+use Rattle.bits.proofs.Tests.{split, clash, both-l, both-r, both-i, either-l, either-r, either-i-l}
+use Rattle.bits.proofs.Places.{get-put-fits, put-put, put-got, covers-in}
 use Rattle.bits.proofs.Loops.{any-one, any-find, any-ext}
-use Rattle.model.specs.Map.{Image, interruptBit, activeSet, settingAt, settingOffsets, settingWidths, flagBytes, flagMasks}
+use Rattle.bits.proofs.Members.{any-of-i, any-of-find, any-of-none, any-of-ext}
+use Rattle.model.specs.Map.{Image, moduleState, interruptBit, activeSet, settingAt, settingOffsets, settingWidths, FlagPair, flagPairs, Range, range, inRanges}
 use Rattle.model.specs.Flags.{isUnmasked, interrupts, settledImage}
 use Rattle.laws_step.specs.Changes.{Bits, ChangesOnly, interruptSet}
 use Rattle.laws_step.specs.Told.{UnmaskedFlag, Settled}
-use Rattle.laws_step.proofs.Frames.{keeps-put, keeps-get, keeps-byte}
+use Rattle.laws_step.proofs.Frames.{unless, keeps-put, keeps-get, keeps-byte}
+
+-- ---- what leaves the flags alone
+
+-- a set of bits lies in the bytes of the ranges
+abbrev pub Within : List Range → Bits → Type 0
+Within rs may = (i b : ℕ) → may i b ≡ true → inRanges rs i ≡ true
+
+pub in-range : (from to i : ℕ) → from ≤ i → i ≤ to → inRanges (range from to ∷ []) i ≡ true
+unfolding inRanges
+in-range from to i a b = either-i-l _ _ (both-i (le-leb from i a) (le-leb i to b))
+
+-- no flag byte and no mask byte lies in the ranges
+unfoldable pub sparesFlags : List Range → Bool
+sparesFlags rs = not (anyOf flagPairs (λ p. either (inRanges rs (p .flag)) (inRanges rs (p .mask))))
+
+-- a change within such ranges leaves what the flags tell
+unmasked-kept : (x y : Image) (p : FlagPair) (b : ℕ) → digit y (p .flag) b ≡ digit x (p .flag) b → digit y (p .mask) b ≡ digit x (p .mask) b
+    → isUnmasked y p b ≡ isUnmasked x p b
+unfolding isUnmasked
+unmasked-kept x y p b f m = rw (f, m)
+
+interrupts-kept : (rs : List Range) → sparesFlags rs ≡ true → {may : Bits} {x y : Image} → ChangesOnly may x y → Within rs may → interrupts y ≡ interrupts x
+unfolding sparesFlags interrupts
+interrupts-kept rs s {x = x} {y = y} k w = any-of-ext _ _ flagPairs (λ p m. any-ext 8 _ _ (λ b l.
+    let o = any-of-none _ flagPairs p (not-true _ s) m in
+    unmasked-kept x y p b
+    (k .others (p .flag) b (unless (λ t. clash (w (p .flag) b t) (either-l _ _ o))))
+    (k .others (p .mask) b (unless (λ t. clash (w (p .mask) b t) (either-r _ _ o))))))
+
+-- ---- settling
+
+interrupt-within : Within (range moduleState moduleState ∷ []) interruptSet
+unfolding interruptSet
+interrupt-within i b c = let q = covers-in interruptBit i b c .here in in-range 3 3 i (omega arith) (omega arith)
 
 module _ (x : Image) where
   pub settled-changes : ChangesOnly interruptSet x (settledImage x)
@@ -24,14 +61,9 @@ module _ (x : Image) where
   settled-changes = keeps-put _ x interruptBit _ (λ i b e. e)
 
   -- the bit is in no flag byte and in no mask byte
-  elsewhere : (i b : ℕ) → 3 < i → digit (settledImage x) i b ≡ digit x i b
-  unfolding settledImage covers both
-  elsewhere i b h = digit-put-out x interruptBit _ i b (rw (ne-eqb 3 i (omega arith), both))
-
   pub interrupts-settled : interrupts (settledImage x) ≡ interrupts x
-  unfolding interrupts isUnmasked
-  interrupts-settled = any-ext 20 _ _ (λ k h. any-ext 8 _ _ (λ b l.
-      rw (elsewhere (flagBytes + k) b (omega arith), elsewhere (flagMasks + k) b (omega arith))))
+  unfolding sparesFlags anyOf tab inRanges both either
+  interrupts-settled = interrupts-kept (range moduleState moduleState ∷ []) refl settled-changes interrupt-within
 
   -- settling a second time changes nothing
   pub settled-twice : settledImage (settledImage x) ≡ settledImage x
@@ -66,30 +98,32 @@ pub settled-if : (x : Image) → get x interruptBit ≡ pick (interrupts x) 0 1 
 unfolding settledImage
 settled-if x e = ap (put x interruptBit) (sym e) ∙ put-got x interruptBit
 
--- .. and stays so where no flag, no mask and not lower 3.0 itself is changed
-pub settled-stays : {may : Bits} {x y : Image} → ChangesOnly may x y → ((i b : ℕ) → i < 666 → may i b ≡ false) → 3 < length x → Settled x → Settled y
-unfolding interrupts isUnmasked
-settled-stays {x = x} {y = y} k n h e = settled-if y
-    (keeps-get k interruptBit (λ i b c. n i b (omega (arith, covers-in interruptBit i b c .here)))
-    ∙ ap (λ z. get z interruptBit) (sym e) ∙ bit-settled x h ∙ ap (λ t. pick t 0 1) (sym same))
-  where
-    same : interrupts y ≡ interrupts x
-    same = any-ext 20 _ _ (λ j l. any-ext 8 _ _ (λ b c.
-        rw (k .others (flagBytes + j) b (n (flagBytes + j) b (omega arith)), k .others (flagMasks + j) b (n (flagMasks + j) b (omega arith)))))
+-- .. and stays so where neither it nor a flag nor a mask lies within what is changed
+unfoldable pub sparesInterrupt : List Range → Bool
+sparesInterrupt rs = both (sparesFlags rs) (not (inRanges rs moduleState))
+
+pub settled-stays : (rs : List Range) → sparesInterrupt rs ≡ true → {may : Bits} {x y : Image} → ChangesOnly may x y → Within rs may
+    → 3 < length x → Settled x → Settled y
+unfolding sparesInterrupt
+settled-stays rs s {x = x} {y = y} k w h e = settled-if y
+    (keeps-get k interruptBit (λ i b c. unless (λ t. clash (rw (← (covers-in interruptBit i b c .here)) at (w i b t)) (not-true _ (both-r _ _ s))))
+    ∙ ap (λ z. get z interruptBit) (sym e) ∙ bit-settled x h ∙ ap (λ t. pick t 0 1) (sym (interrupts-kept rs (both-l _ _ s) k w)))
 
 -- the test of the model is the plain statement
 pub unmasked : (x : Image) → (interrupts x ≡ true) ↔ UnmaskedFlag x
 unfolding interrupts isUnmasked
 unmasked x = (
-  λ e. let f = any-find 20 _ e in let g = any-find 8 _ (f .2) in record {
-    byte = f .0;
+  λ e. let f = any-of-find _ flagPairs e in let g = any-find 8 _ (f .2) in record {
+    pair = f .0;
+    listed = f .1;
     bit = g .0;
-    isFlagByte = f .1;
     isBit = g .1;
-    isSet = eqb-true _ _ (both-l _ _ (g .2));
-    isUnmasked = eqb-true _ _ (both-r _ _ (g .2));
+    counts = both-l _ _ (g .2);
+    isSet = eqb-true _ _ (both-l _ _ (both-r _ _ (g .2)));
+    isUnmasked = eqb-true _ _ (both-r _ _ (both-r _ _ (g .2)));
   },
-  λ u. any-one 20 _ (u .byte) (u .isFlagByte) (any-one 8 _ (u .bit) (u .isBit) (both-i (eq-eqb _ _ (u .isSet)) (eq-eqb _ _ (u .isUnmasked)))),
+  λ u. any-of-i _ flagPairs (u .pair) (u .listed) (any-one 8 _ (u .bit) (u .isBit)
+      (both-i (u .counts) (both-i (eq-eqb _ _ (u .isSet)) (eq-eqb _ _ (u .isUnmasked))))),
 )
 
 -- a settled lower 3.0 is 0 exactly when an unmasked flag bit is 1

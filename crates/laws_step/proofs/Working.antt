@@ -1,7 +1,7 @@
 -- A work step on a lane in progress: a rejection closes in one step, and a pass copies one lane a step, ascending, and then closes. Assumes nothing.
 use mathlib.Core.Path.{_≡_, refl, ap, _∙_}
 use mathlib.Core.Bool.{Bool, true, false}
-use mathlib.Core.List.{List}
+use mathlib.Core.List.{List, [], _∷_}
 use Prim.Native.Nat.{ℕ, suc, _+_, _^_, _≤_, _<_}
 use native.Mathlib.Nat.{mod-eq-of-lt}
 use native.Mathlib.Omega.{arith}
@@ -9,13 +9,13 @@ use lib.ListN.{length, getD}
 use borrow.Author.Tests.{lt-ltb, le-ltb}
 use Rattle.bits.specs.Choice.{pick, both, either}
 use Rattle.bits.specs.Lane.{laneField, allApart}
-use Rattle.bits.specs.Loop.{allBelow}
+use Rattle.bits.specs.Loop.{tab, anyOf, allBelow}
 use Rattle.bits.specs.Place.{get, apart}
 use Rattle.bits.specs.Sets.{has, nextIn}
 use Rattle.bits.proofs.Loops.{any-one, get-puts}
 use Rattle.bits.proofs.Lanes.{table-apart}
 use Rattle.bits.proofs.Masks.{next-le, next-bound}
-use Rattle.model.specs.Map.{Image, activeSet, settingAt, settingOffsets, settingWidths, statusAt, pendingAt, page11, on, imageLength}
+use Rattle.model.specs.Map.{Image, activeSet, settingAt, settingOffsets, settingWidths, statusAt, pendingAt, page11, on, Range, rangeOn, inRanges, imageLength}
 use Rattle.model.specs.Statuses.{success}
 use Rattle.model.specs.Records.{stageAt, heldIn}
 use Rattle.model.specs.View.{settingsAt, settingValues}
@@ -34,7 +34,7 @@ use Rattle.model.specs.declared.lane.Stage.the-variants.{InProgress}
 use Rattle.laws_step.specs.Changes.{ChangesOnly, orIn, interruptSet, statusSet, pendingSet, activeOf}
 use Rattle.laws_step.specs.Told.{Settled, worked, Closed, CopiedLane, pendingThen}
 use Rattle.laws_step.proofs.Frames.{unless, keeps-refl, keeps-put, keeps-then, keeps-left, keeps-right, keeps-each, keeps-lanes, keeps-lane, lanes-written, lanes-bytes}
-use Rattle.laws_step.proofs.Settling.{settled-changes, settled-stays, settled-lane, settled-setting}
+use Rattle.laws_step.proofs.Settling.{Within, in-range, sparesFlags, sparesInterrupt, settled-changes, settled-stays, settled-lane, settled-setting}
 use Rattle.laws_step.proofs.Stepped.{work-done}
 use Rattle.laws_step.proofs.Places.{in-image}
 use Rattle.laws_step.proofs.Triggering.{status-changes}
@@ -43,10 +43,17 @@ use Rattle.laws_step.proofs.Held.{code-fits, next-fits, written-fits}
 
 -- ---- what the parts of a step change
 
--- ConfigStatus lies past the flags, their masks and lower 3.0
-status-past : (c : ℕ → Bool) (i b : ℕ) → i < 666 → statusSet c i b ≡ false
-unfolding statusSet
-status-past c i b h = unless (λ t. let r = lanes-bytes c (on page11 202) 4 i b refl t in omega arith)
+-- ConfigStatus has four bytes, with no flag, no mask and not lower 3.0
+statusRange : List Range
+statusRange = rangeOn page11 202 205 ∷ []
+
+status-within : (c : ℕ → Bool) → Within statusRange (statusSet c)
+unfolding statusRange statusSet
+status-within c i b t = let r = lanes-bytes c (on page11 202) 4 i b refl t in in-range (on page11 202) (on page11 205) i (omega arith) (omega arith)
+
+status-spares : sparesInterrupt statusRange ≡ true
+unfolding statusRange sparesInterrupt sparesFlags anyOf tab inRanges both either
+status-spares = refl
 
 pub pending-changes : (c : ℕ → Bool) (v : ℕ) (x : Image) → ChangesOnly (pendingSet c) x (withPending c v x)
 unfolding withPending pendingSet
@@ -133,7 +140,7 @@ module _ (room : ℕ) (s : State) (bytes : List ℕ) (l : ℕ) (p : Progress) (h
     unfolding closedState
     rejected-changes-settled size q =
         let k = status-changes (has (p .group)) code (s .image) in
-        rw (reject-is, settled-stays k (status-past _) size q) k
+        rw (reject-is, settled-stays statusRange status-spares k (status-within _) size q) k
 
     -- its lanes show the code and are idle
     pub rejected-closes : isSound s ≡ true → length (s .image) ≡ imageLength → Closed (p .group) code s (worked room s bytes l)

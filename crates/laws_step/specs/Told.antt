@@ -7,9 +7,10 @@ use Prim.Native.Nat.{ℕ, suc, _+_, _-_, _*_, _≤_, _<_}
 use lib.Dec.{eqb, leb, ltb}
 use lib.ListN.{length, getD}
 use Rattle.bits.specs.Choice.{pick, both, either}
+use Rattle.bits.specs.Loop.{Among}
 use Rattle.bits.specs.Place.{get, digit}
 use Rattle.bits.specs.Sets.{has, nextIn, laneCount, firstIn}
-use Rattle.model.specs.Map.{Image, page11, on, activeSet, outputDisableAt, squelchForceAt, statusAt, stateAt, bankSelect, pageSelect, writable, clearing, flagBytes, flagMasks, flagByteCount, pendingAt, flagAt, stateChangedFlag, receivedPower, highAlarmLimit, lowAlarmLimit, highWarningLimit, lowWarningLimit, highAlarmFlag, lowAlarmFlag, highWarningFlag, lowWarningFlag}
+use Rattle.model.specs.Map.{Image, page11, on, activeSet, outputDisableAt, squelchForceAt, statusAt, stateAt, bankSelect, pageSelect, writable, clearing, FlagPair, flagPairs, pendingAt, flagAt, stateChangedFlag, receivedPower, highAlarmLimit, lowAlarmLimit, highWarningLimit, lowWarningLimit, highAlarmFlag, lowAlarmFlag, highWarningFlag, lowWarningFlag}
 use Rattle.model.specs.PathStates.{codeOf, resting}
 use Rattle.model.specs.Records.{stageAt, isInProgress, heldIn, withVerdict}
 use Rattle.model.specs.View.{viewOf, settingsAt}
@@ -36,14 +37,15 @@ use Rattle.laws_step.specs.Changes.{Bits, orIn, inBytes, statusSet, stat
 abbrev pub stepOn : ℕ → State → Call → List ℕ → Stepped
 stepOn room s c bytes = step early room s (event c bytes)
 
--- a flag bit in 11h:134-153 is 1 and its mask bit, 79 addresses higher on 10h, is 0
+-- a flag bit that counts is 1 and its mask bit is 0
 pub record UnmaskedFlag (x : Image) : Type 0 where
-  pub byte : ℕ
+  pub pair : FlagPair
+  pub listed : Among pair flagPairs
   pub bit : ℕ
-  pub isFlagByte : byte < flagByteCount
   pub isBit : bit < 8
-  pub isSet : digit x (flagBytes + byte) bit ≡ 1
-  pub isUnmasked : digit x (flagMasks + byte) bit ≡ 0
+  pub counts : has (pair .bits) bit ≡ true
+  pub isSet : digit x (pair .flag) bit ≡ 1
+  pub isUnmasked : digit x (pair .mask) bit ≡ 0
 
 -- byte i of the image is one of from .. to - 1
 unfoldable pub amid : ℕ → ℕ → ℕ → Bool

@@ -2,7 +2,7 @@
 use mathlib.Core.Path.{_≡_, refl, sym, ap, _∙_, subst}
 use mathlib.Core.Bool.{true, false}
 use mathlib.Core.List.{List, [], _∷_, _++_, flatten, append-nil, append-assoc}
-use mathlib.Core.Logic.{_≢_}
+use mathlib.Core.Logic.{_≢_, _⊎_, inl}
 use Prim.Native.Nat.{zero, suc, _+_, _*_, _≤_, _<_}
 use native.Mathlib.Nat.{mod-eq-of-lt}
 use native.Mathlib.Omega.{arith}
@@ -15,10 +15,9 @@ use Rattle.bits.proofs.Tests.{split, clash, both-l, both-r, both-i, pick-true, 
 use Rattle.bits.proofs.Loops.{all-intro}
 use Rattle.bits.proofs.Words.{length-put-word, word-byte-other, word-ext, word-put}
 use Rattle.model.specs.Numbers.{Bytes, Count, Index}
-use Rattle.model.specs.Map.{imageLength}
 use Rattle.model.specs.Answers.{number, isDone}
 use Rattle.model.specs.Refusals.{firstOf, startRefusals}
-use Rattle.model.specs.File.{Edition, editionOf, imageOffset, recordsOffset, recordCount, isHeader, recordLength, isRecord, imageIn, isWholeLength, isWellFormed}
+use Rattle.model.specs.File.{Edition, laterEditions, editionAmong, editionOf, imageOffset, recordsOffset, recordCount, isHeader, recordLength, isRecord, carriedImage, laidOut, imageIn, isWholeLength, isWellFormed}
 use Rattle.model.specs.Text.{badLine}
 use Rattle.model.specs.Night.{printedUpTo}
 use Rattle.model.specs.Stream.{countLimit, hasImage, afterImage, leadingRecords, goodRecords, goodLines, isAll, streamedBy, streamed}
@@ -101,18 +100,18 @@ module _ (bytes : Bytes) (I : Imaged bytes) where
   unfolding goodHeader
   header-length = length-put-word 4 (take imageOffset bytes) 4 _ ∙ length-take-le imageOffset bytes (I .headed .whole)
 
-  image-size : length (imageIn bytes) ≡ imageLength
-  unfolding imageIn
-  image-size = length-take-le imageLength (drop imageOffset bytes) (omega (arith, length-drop imageOffset bytes, I .whole))
+  image-size : length (carriedImage bytes) ≡ editionOf bytes .imageBytes
+  unfolding carriedImage
+  image-size = length-take-le (editionOf bytes .imageBytes) (drop imageOffset bytes) (omega (arith, length-drop imageOffset bytes, I .whole))
 
-  front-length : length (goodHeader bytes ++ imageIn bytes) ≡ recordsOffset (editionOf bytes)
-  front-length = omega (arith, length-append (goodHeader bytes) (imageIn bytes), header-length, image-size)
+  front-length : length (goodHeader bytes ++ carriedImage bytes) ≡ recordsOffset (editionOf bytes)
+  front-length = omega (arith, length-append (goodHeader bytes) (carriedImage bytes), header-length, image-size)
 
   good-byte : (j : Index) → j < imageOffset → getD (goodFile bytes) j 0 ≡ getD (goodHeader bytes) j 0
   unfolding goodFile
   good-byte j b =
-      List·getD-append (goodHeader bytes ++ imageIn bytes) (flatten (goodRecords bytes)) 0 j (omega (arith, front-length))
-      ∙ List·getD-append (goodHeader bytes) (imageIn bytes) 0 j (omega (arith, header-length))
+      List·getD-append (goodHeader bytes ++ carriedImage bytes) (flatten (goodRecords bytes)) 0 j (omega (arith, front-length))
+      ∙ List·getD-append (goodHeader bytes) (carriedImage bytes) 0 j (omega (arith, header-length))
 
   few : recordCount bytes ≤ countLimit
   unfolding isHeader
@@ -125,21 +124,30 @@ module _ (bytes : Bytes) (I : Imaged bytes) where
       ∙ word-put 4 (take imageOffset bytes) 4 _ (omega (arith, length-take-le imageOffset bytes (I .headed .whole)))
       ∙ mod-eq-of-lt (omega (arith, counted bytes I .within, few))
 
-  good-header : isHeader countLimit (goodFile bytes) ≡ true
+  good-same : (j : Index) → j < imageOffset → (j < 4) ⊎ (8 ≤ j) → getD (goodFile bytes) j 0 ≡ getD bytes j 0
   unfolding goodHeader
+  good-same j b s = good-byte j b ∙ word-byte-other 4 (take imageOffset bytes) 4 _ j s ∙ getD-take imageOffset bytes j 0 b
+
+  good-header : isHeader countLimit (goodFile bytes) ≡ true
   good-header =
-      header-same countLimit (goodFile bytes) bytes
-      (λ j b s. good-byte j b ∙ word-byte-other 4 (take imageOffset bytes) 4 _ j s ∙ getD-take imageOffset bytes j 0 b)
+      header-same countLimit (goodFile bytes) bytes good-same
       (le-leb (recordCount (goodFile bytes)) countLimit (omega (arith, good-count, counted bytes I .within, few)) ∙ sym (le-leb (recordCount bytes) countLimit few))
       ∙ I .headed .right
 
-  good-image : imageIn (goodFile bytes) ≡ imageIn bytes
-  unfolding imageIn goodFile
-  good-image = middle (goodHeader bytes) (imageIn bytes) (flatten (goodRecords bytes)) imageOffset imageLength header-length image-size
+  same-edition : editionOf (goodFile bytes) ≡ editionOf bytes
+  same-edition = ap (editionAmong laterEditions) (good-same 2 (omega arith) (inl (omega arith)))
+
+  good-image : carriedImage (goodFile bytes) ≡ carriedImage bytes
+  unfolding carriedImage goodFile
+  good-image =
+      ap (λ (e : Edition). take (e .imageBytes) (drop imageOffset (goodFile bytes))) same-edition
+      ∙ middle (goodHeader bytes) (carriedImage bytes) (flatten (goodRecords bytes)) imageOffset (editionOf bytes .imageBytes) header-length image-size
 
   good-after : afterImage (goodFile bytes) ≡ flatten (goodRecords bytes)
   unfolding afterImage goodFile
-  good-after = drop-at (goodHeader bytes ++ imageIn bytes) (flatten (goodRecords bytes)) (recordsOffset (editionOf bytes)) front-length
+  good-after =
+      ap (λ (e : Edition). drop (recordsOffset e) (goodFile bytes)) same-edition
+      ∙ drop-at (goodHeader bytes ++ carriedImage bytes) (flatten (goodRecords bytes)) (recordsOffset (editionOf bytes)) front-length
 
   records : Records (editionOf bytes) (goodRecords bytes)
   unfolding goodRecords
@@ -147,14 +155,14 @@ module _ (bytes : Bytes) (I : Imaged bytes) where
 
   good-records : goodRecords (goodFile bytes) ≡ goodRecords bytes
   unfolding goodRecords
-  good-records = rw (good-count, good-after) (row-leads (editionOf bytes) (goodRecords bytes) records)
+  good-records = rw (same-edition, good-count, good-after) (row-leads (editionOf bytes) (goodRecords bytes) records)
 
   good-imaged : Imaged (goodFile bytes)
   unfolding goodFile
   good-imaged =
       let l : recordsOffset (editionOf bytes) ≤ length (goodFile bytes) =
-      omega (arith, length-append (goodHeader bytes ++ imageIn bytes) (flatten (goodRecords bytes)), front-length) in
-      record { headed = record { whole = omega arith; right = good-header }; whole = l }
+      omega (arith, length-append (goodHeader bytes ++ carriedImage bytes) (flatten (goodRecords bytes)), front-length) in
+      record { headed = record { whole = omega arith; right = good-header }; whole = rw same-edition l }
 
   good-all : isAll (goodFile bytes) ≡ true
   unfolding isAll
@@ -170,7 +178,7 @@ module _ (bytes : Bytes) (I : Imaged bytes) where
   unfolding goodLines
   good-printed S =
       sym (streamed-whole (goodFile bytes) good-formed)
-      ∙ taken-lines (goodFile bytes) good-imaged (ap (λ x. firstOf (startRefusals x)) good-image ∙ S)
+      ∙ taken-lines (goodFile bytes) good-imaged (ap (λ x. firstOf (startRefusals (laidOut x))) good-image ∙ S)
       ∙ ap (λ text. goodLines (goodFile bytes) ++ text) (pick-true _ _ good-all)
       ∙ append-nil (goodLines (goodFile bytes))
       ∙ rw (good-image, good-records)

@@ -18,13 +18,14 @@ use Rattle.model.specs.Work.{early}
 use Rattle.model.specs.Refusals.{firstOf, startRefusals}
 use Rattle.model.specs.Step.{Stepped, step, run}
 use Rattle.model.specs.Outcome.{listRoom}
-use Rattle.model.specs.File.{editionOf, imageOffset, recordsOffset, recordCount, isHeader, recordLength, isRecord, eventOf, imageIn}
+use Rattle.model.specs.File.{editionOf, imageOffset, recordsOffset, recordCount, isHeader, recordLength, isRecord, eventOf, carriedImage, laidOut, imageIn}
 use Rattle.model.specs.Text.{line, badLine}
 use Rattle.model.specs.Night.{linesFrom}
 use Rattle.model.specs.Stream.{Carried, Took, rowOf, silent, holding, entering, refused, tookHeader, startedBy, tookRecord, played, endedIn, printedAfter, fed, fedAll, countLimit, afterImage, leadingRecords, streamed, begun}
 use Rattle.model.specs.declared.answer.Answer.{Answer}
 use Rattle.model.specs.declared.answer.Answer.the-variants.{Malformed}
 use Rattle.model.specs.declared.stream.Phase.the-variants.{InImage, InRecords}
+use Rattle.model.proofs.Editions.{edition-fits}
 use Rattle.laws_stream.proofs.Streamed.{isFirst, recordsText, text-bad, text-line, imageText, streamed-short, streamed-bad, streamed-image}
 use Rattle.laws_stream.proofs.Headers.{count-front, header-front}
 use Rattle.laws_stream.proofs.Stretches.{fed-append, end-in, refused-rest, over-ended, byte-more, header-held, header-judged, image-held, whole-image, record-held, record-judged, whole-record}
@@ -126,21 +127,24 @@ records-text (suc n) c next records bytes w h =
 -- ---- the image, and the records after it
 
 module _ (c : Carried) (records : Count) (bytes : Bytes) (phase : c .phase ≡ InImage 0 records) (size : length (c .state .image) ≡ imageLength) where
-  image-cut-off : length bytes < imageLength → fedAll c (bytes ∷ []) .text ≡ badLine (number Malformed)
+  image-cut-off : length bytes < rowOf c .imageBytes → fedAll c (bytes ∷ []) .text ≡ badLine (number Malformed)
   unfolding fedAll endedIn refused
-  image-cut-off h = rw (image-held c 0 records bytes phase (omega arith) (omega arith)) (ap (λ t. t .text) (end-in _ refl))
+  image-cut-off h = rw (image-held c 0 records bytes phase (omega arith) (omega (arith, edition-fits (c .edition)))) (ap (λ t. t .text) (end-in _ refl))
 
-  image-text : imageLength ≤ length bytes → fedAll c (bytes ∷ []) .text ≡ imageText (rowOf c) (take imageLength bytes) records (drop imageLength bytes)
+  image-text : rowOf c .imageBytes ≤ length bytes
+      → fedAll c (bytes ∷ []) .text ≡ imageText (rowOf c) (laidOut (take (rowOf c .imageBytes) bytes)) records (drop (rowOf c .imageBytes) bytes)
   unfolding startedBy imageText
   image-text whole =
-      let x : Image = take imageLength bytes in
-      let judged : fed c x ≡ startedBy (firstOf (startRefusals x)) c records x = whole-image c records x phase size (length-take-le imageLength bytes whole) in
+      let n : Count = rowOf c .imageBytes in
+      let x : Image = laidOut (take n bytes) in
+      let judged : fed c (take n bytes) ≡ startedBy (firstOf (startRefusals x)) c records x =
+      whole-image c records (take n bytes) phase size (length-take-le n bytes whole) in
       split (isDone (firstOf (startRefusals x)))
       (λ d.
-      cut-then c imageLength bytes (judged ∙ pick-true _ _ d)
-      ∙ records-text records _ 0 records (drop imageLength bytes) (record { phase = refl; none = refl }) (omega arith)
+      cut-then c n bytes (judged ∙ pick-true _ _ d)
+      ∙ records-text records _ 0 records (drop n bytes) (record { phase = refl; none = refl }) (omega arith)
       ∙ sym (pick-true _ _ d))
-      (λ d. cut-bad c _ _ imageLength bytes (judged ∙ pick-false _ _ d) ∙ sym (pick-false _ _ d))
+      (λ d. cut-bad c _ _ n bytes (judged ∙ pick-false _ _ d) ∙ sym (pick-false _ _ d))
 
 -- ---- the header, and all after it
 
@@ -182,7 +186,7 @@ module _ (x : Image) (bytes : Bytes) where
 
 module _ (x : Image) (size : length x ≡ imageLength) where
   one-piece : (bytes : Bytes) → fedAll (begun x) (bytes ∷ []) .text ≡ streamed bytes
-  unfolding headed begun imageIn afterImage
+  unfolding headed begun carriedImage afterImage
   one-piece bytes = elim (decLt (length bytes) imageOffset) [
     | yes s ↦ header-cut-off x bytes s ∙ sym (streamed-short bytes (omega arith))
     | no s ↦
@@ -191,7 +195,7 @@ module _ (x : Image) (size : length x ≡ imageLength) where
         (λ h. header-good x bytes (omega arith) h ∙ elim (decLt (length bytes) (recordsOffset (editionOf bytes))) [
           | yes l ↦ image-cut-off (headed x bytes) (recordCount bytes) (drop imageOffset bytes) refl size (omega arith) ∙ sym (streamed-short bytes l)
           | no l ↦ image-text (headed x bytes) (recordCount bytes) (drop imageOffset bytes) refl size (omega arith)
-              ∙ ap (imageText (editionOf bytes) (imageIn bytes) (recordCount bytes)) (drop-drop imageLength imageOffset bytes)
+              ∙ ap (imageText (editionOf bytes) (imageIn bytes) (recordCount bytes)) (drop-drop (editionOf bytes .imageBytes) imageOffset bytes)
               ∙ sym (streamed-image bytes h (omega arith))
         ])
         (λ h. header-bad x bytes (omega arith) h ∙ sym (streamed-bad bytes h))

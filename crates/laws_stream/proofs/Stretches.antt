@@ -6,8 +6,8 @@ use mathlib.Core.List.{[], _∷_, _++_, append-assoc, append-nil}
 use Prim.Native.Nat.{suc, _+_, _-_, _≤_, _<_}
 use native.Mathlib.Omega.{arith}
 use lib.Dec.{ltb}
-use lib.ListN.{length, getD, set, take, drop, length-append, drop-of-length-le}
-use lib.Seq.{take-suc, take-all, append-snoc, length-take-le, sets, sets-eq}
+use lib.ListN.{length, getD, set, take, drop, length-append}
+use lib.Seq.{take-suc, take-all, take-at, append-snoc, length-take-le, sets, sets-eq}
 use borrow.Author.Tests.{lt-ltb, le-ltb}
 use Rattle.bits.proofs.Tests.{pick-true, pick-false}
 use Rattle.model.specs.Numbers.{Byte, Bytes, Count, RecordIndex}
@@ -17,12 +17,13 @@ use Rattle.model.specs.Work.{early}
 use Rattle.model.specs.Refusals.{firstOf, startRefusals}
 use Rattle.model.specs.Step.{step}
 use Rattle.model.specs.Outcome.{listRoom}
-use Rattle.model.specs.File.{imageOffset, recordLength, isRecord, eventOf}
-use Rattle.model.specs.Stream.{Carried, Took, rowOf, silent, holding, refused, tookHeader, startedBy, tookImage, played, tookRecord, tookIn, took, endedIn, ended, printedAfter, fed}
+use Rattle.model.specs.File.{imageOffset, recordLength, isRecord, eventOf, laidOut}
+use Rattle.model.specs.Stream.{Carried, Took, rowOf, silent, holding, refused, tookHeader, startedBy, wholeImage, tookImage, played, tookRecord, tookIn, took, endedIn, ended, printedAfter, fed}
 use Rattle.model.specs.declared.answer.Answer.{Answer}
 use Rattle.model.specs.declared.answer.Answer.the-variants.{Malformed}
 use Rattle.model.specs.declared.stream.Phase.{Phase}
 use Rattle.model.specs.declared.stream.Phase.the-variants.{InHeader, InImage, InRecords, Over}
+use Rattle.model.proofs.Editions.{edition-some, edition-fits}
 
 -- two stretches in a row
 pub fed-append : (c : Carried) (front rest : Bytes) → fed c (front ++ rest) ≡ printedAfter (fed c front .text) (fed (fed c front .carried) rest)
@@ -106,20 +107,20 @@ module _ (c : Carried) (bs : Bytes) (phase : c .phase ≡ InHeader) where
 inImage : Carried → Count → Count → Image → Carried
 inImage c come records x = record { phase = InImage come records; edition = c .edition; held = c .held; state = withImage (c .state) x }
 
--- the whole image, by what start answers to it
+-- the whole image, by what start answers to it as it is laid out
 startedAt : Carried → Count → Image → Took
-startedAt c records x = startedBy (firstOf (startRefusals x)) c records x
+startedAt c records x = startedBy (firstOf (startRefusals (wholeImage c x))) c records (wholeImage c x)
 
 module _ (c : Carried) (come records : Count) (b : Byte) (phase : c .phase ≡ InImage come records) where
-  image-one : suc come < imageLength → took c b ≡ silent (inImage c (suc come) records (set (c .state .image) come b))
+  image-one : suc come < rowOf c .imageBytes → took c b ≡ silent (inImage c (suc come) records (set (c .state .image) come b))
   unfolding tookIn tookImage inImage
-  image-one h = byte-in c b phase ∙ pick-true _ _ (lt-ltb (suc come) imageLength h)
+  image-one h = byte-in c b phase ∙ pick-true _ _ (lt-ltb (suc come) (rowOf c .imageBytes) h)
 
-  image-last : imageLength ≤ suc come → took c b ≡ startedAt c records (set (c .state .image) come b)
+  image-last : rowOf c .imageBytes ≤ suc come → took c b ≡ startedAt c records (set (c .state .image) come b)
   unfolding tookIn tookImage startedAt
-  image-last h = byte-in c b phase ∙ pick-false _ _ (le-ltb (suc come) imageLength h)
+  image-last h = byte-in c b phase ∙ pick-false _ _ (le-ltb (suc come) (rowOf c .imageBytes) h)
 
-image-sets : (c : Carried) (come records : Count) (bs : Bytes) (n : Count) → c .phase ≡ InImage come records → come + length bs ≡ n → n < imageLength
+image-sets : (c : Carried) (come records : Count) (bs : Bytes) (n : Count) → c .phase ≡ InImage come records → come + length bs ≡ n → n < rowOf c .imageBytes
     → fed c bs ≡ silent (inImage c n records (sets (c .state .image) come bs))
 unfolding fed inImage
 image-sets c come records [] n e h l =
@@ -129,9 +130,9 @@ image-sets c come records (b ∷ bs) n e h l =
     rw (image-one c come records b e (omega arith))
     (image-sets (inImage c (suc come) records (set (c .state .image) come b)) (suc come) records bs n refl (omega arith) l)
 
-image-whole : (c : Carried) (come records : Count) (b : Byte) (bs : Bytes) → c .phase ≡ InImage come records → come + length (b ∷ bs) ≡ imageLength
+image-whole : (c : Carried) (come records : Count) (b : Byte) (bs : Bytes) → c .phase ≡ InImage come records → come + length (b ∷ bs) ≡ rowOf c .imageBytes
     → fed c (b ∷ bs) ≡ startedAt c records (sets (c .state .image) come (b ∷ bs))
-unfolding fed inImage startedAt startedBy refused
+unfolding fed inImage startedAt startedBy refused wholeImage
 image-whole c come records b [] e h = fed-one c b ∙ image-last c come records b e (omega arith)
 image-whole c come records b (a ∷ bs) e h =
     rw (image-one c come records b e (omega arith))
@@ -139,7 +140,7 @@ image-whole c come records b (a ∷ bs) e h =
 
 -- a part of the image
 pub image-held : (c : Carried) (come records : Count) (bs : Bytes)
-    → c .phase ≡ InImage come records → come + length bs < imageLength → come + length bs ≤ length (c .state .image)
+    → c .phase ≡ InImage come records → come + length bs < rowOf c .imageBytes → come + length bs ≤ length (c .state .image)
     → fed c bs
     ≡ silent (record {
       phase = InImage (come + length bs) records;
@@ -154,20 +155,25 @@ image-held c come records bs e h l =
 
 -- the rest of the image
 pub image-judged : (c : Carried) (come records : Count) (bs : Bytes)
-    → c .phase ≡ InImage come records → 0 < length bs → come + length bs ≡ imageLength → imageLength ≤ length (c .state .image)
-    → let x : Image = take come (c .state .image) ++ bs ++ drop (come + length bs) (c .state .image) in fed c bs ≡ startedBy (firstOf (startRefusals x)) c records x
+    → c .phase ≡ InImage come records → 0 < length bs → come + length bs ≡ rowOf c .imageBytes → come + length bs ≤ length (c .state .image)
+    → let x : Image = wholeImage c (take come (c .state .image) ++ bs ++ drop (come + length bs) (c .state .image)) in
+    fed c bs ≡ startedBy (firstOf (startRefusals x)) c records x
 unfolding startedAt
 image-judged c come records [] e p h l = absurd (omega arith)
 image-judged c come records (b ∷ bs) e p h l =
-    image-whole c come records b bs e h ∙ ap (startedAt c records) (sets-eq (b ∷ bs) (c .state .image) come (omega arith))
+    image-whole c come records b bs e h ∙ ap (startedAt c records) (sets-eq (b ∷ bs) (c .state .image) come l)
 
 -- the image in one stretch
-pub whole-image : (c : Carried) (records : Count) (bs : Bytes) → c .phase ≡ InImage 0 records → length (c .state .image) ≡ imageLength → length bs ≡ imageLength
-    → fed c bs ≡ startedBy (firstOf (startRefusals bs)) c records bs
-unfolding startedAt
+pub whole-image : (c : Carried) (records : Count) (bs : Bytes)
+    → c .phase ≡ InImage 0 records → length (c .state .image) ≡ imageLength → length bs ≡ rowOf c .imageBytes
+    → fed c bs ≡ startedBy (firstOf (startRefusals (laidOut bs))) c records (laidOut bs)
+unfolding wholeImage
 whole-image c records bs e l h =
+    let some = edition-some (c .edition) in
+    let fits = edition-fits (c .edition) in
     image-judged c 0 records bs e (omega arith) (omega arith) (omega arith)
-    ∙ ap (startedAt c records) (ap (λ (r : Bytes). bs ++ r) (drop-of-length-le (c .state .image) {i = 0 + length bs} (omega arith)) ∙ append-nil bs)
+    ∙ ap (λ x. startedBy (firstOf (startRefusals (laidOut x))) c records (laidOut x))
+    (take-at bs (drop (0 + length bs) (c .state .image)) (rowOf c .imageBytes) h)
 
 -- ---- a record
 

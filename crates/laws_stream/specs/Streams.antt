@@ -14,7 +14,7 @@ use Rattle.model.specs.Start.{startedState}
 use Rattle.model.specs.Refusals.{firstOf, startRefusals}
 use Rattle.model.specs.Step.{run}
 use Rattle.model.specs.Outcome.{listRoom}
-use Rattle.model.specs.File.{editionOf, imageOffset, recordsOffset, recordCount, isHeader, isRecord, eventOf, imageIn, recordStart, recordIn, isWellFormed}
+use Rattle.model.specs.File.{editionOf, imageOffset, recordsOffset, recordCount, isHeader, isRecord, eventOf, carriedImage, imageIn, recordStart, recordIn, isWellFormed}
 use Rattle.model.specs.Text.{badLine}
 use Rattle.model.specs.Night.{linesFrom, printedUpTo}
 use Rattle.model.specs.Stream.{countLimit, goodRecords, Carried, silent, ended, fed}
@@ -86,7 +86,7 @@ goodHeader bytes = putWord 4 (take imageOffset bytes) 4 (length (goodRecords byt
 
 -- the file of just these records
 unfoldable pub goodFile : Bytes → Bytes
-goodFile bytes = goodHeader bytes ++ imageIn bytes ++ flatten (goodRecords bytes)
+goodFile bytes = goodHeader bytes ++ carriedImage bytes ++ flatten (goodRecords bytes)
 
 -- what such bytes print: 9 where there is no right header with a whole image; the answer of start to an image that it refuses, whatever follows;
 -- else what the file of the good records prints, and then 9

@@ -1,17 +1,22 @@
 -- Two images that are alike but for active-setting bits of some lanes are so after every change but the copying. Assumes nothing.
 use mathlib.Core.Path.{_≡_, refl, sym}
-use mathlib.Core.Bool.{Bool, true, false}
+use mathlib.Core.Bool.{Bool, true, false, not}
 use Prim.Native.Nat.{ℕ, _+_, _*_, _/_, _%_, _≤_, _<_}
 use native.Mathlib.Omega.{arith}
+use lib.Dec.{ltb}
 use lib.ListN.{getD, set}
-use Rattle.bits.specs.Choice.{pick, onlyIf}
+use borrow.Author.Tests.{ltb-true, not-false}
+use Rattle.bits.specs.Choice.{pick, onlyIf, both, either}
 use Rattle.bits.specs.Lane.{laneField}
+use Rattle.bits.specs.Loop.{tab, anyOf, Among}
 use Rattle.bits.specs.Place.{get, put, digit}
 use Rattle.bits.specs.Sets.{has, someIn}
 use Rattle.bits.specs.Word.{putWord}
 use Rattle.bits.specs.declared.Place.{Place}
+use Rattle.bits.proofs.Tests.{both-l, both-r}
 use Rattle.bits.proofs.Loops.{each-two, any-ext}
-use Rattle.model.specs.Map.{Image, stateAt, statusAt, pendingAt, flagAt, interruptBit, steppedBit, receivedPower, clearing, activeSet, flagBytes, flagMasks, highAlarmLimit, lowAlarmLimit, highWarningLimit, lowWarningLimit, page10}
+use Rattle.bits.proofs.Members.{any-of-none, any-of-ext}
+use Rattle.model.specs.Map.{Image, stateAt, statusAt, pendingAt, flagAt, interruptBit, steppedBit, receivedPower, clearing, activeSet, FlagPair, flagPairs, highAlarmLimit, lowAlarmLimit, highWarningLimit, lowWarningLimit, page10}
 use Rattle.model.specs.Registers.{withStatus, withPending, withPathState, withFlags}
 use Rattle.model.specs.Triggers.{isIgnored}
 use Rattle.model.specs.PathStates.{codeOf}
@@ -85,6 +90,19 @@ module _ (except : ℕ → ℕ → Bool) where
       (λ k u z b t. alike-set except u z (i + k) 0) x y A
 
 -- ---- active-setting bits of the lanes of c may differ: everything else that is looked at is the same
+
+-- every flag and every mask lies below the active settings
+liesBelow : FlagPair → Bool
+liesBelow p = both (ltb (p .flag) activeSet) (ltb (p .mask) activeSet)
+
+all-below : anyOf flagPairs (λ p. not (liesBelow p)) ≡ false
+unfolding liesBelow anyOf tab both either
+all-below = refl
+
+flags-below : (p : FlagPair) → Among p flagPairs → (p .flag < activeSet) × (p .mask < activeSet)
+unfolding liesBelow
+flags-below p m = let t = not-false _ (any-of-none _ flagPairs p all-below m) in (ltb-true _ _ (both-l _ _ t), ltb-true _ _ (both-r _ _ t))
+
 module _ (c : ℕ → Bool) (x y : Image) (A : Alike (activeBitOf c) x y) where
   pub low : (i : ℕ) → i < activeSet → getD y i 0 ≡ getD x i 0
   low i b = sym (alike-below c x y A i b)
@@ -102,9 +120,13 @@ module _ (c : ℕ → Bool) (x y : Image) (A : Alike (activeBitOf c) x y) where
   unfolding selectedImage
   alike-selected page = rw (low 126 (omega arith)) (alike-page (activeBitOf c) (pageStart (getD x 126 0) page) page x y A)
 
+  unmasked-same : (p : FlagPair) (b : ℕ) → (p .flag < activeSet) × (p .mask < activeSet) → isUnmasked y p b ≡ isUnmasked x p b
+  unfolding isUnmasked digit
+  unmasked-same p b (f, m) = rw (low (p .flag) f, low (p .mask) m)
+
   interrupts-same : interrupts y ≡ interrupts x
-  unfolding interrupts isUnmasked digit
-  interrupts-same = any-ext 20 _ _ (λ k hk. any-ext 8 _ _ (λ b hb. rw (low (flagBytes + k) (omega arith), low (flagMasks + k) (omega arith))))
+  unfolding interrupts
+  interrupts-same = any-of-ext _ _ flagPairs (λ p m. any-ext 8 _ _ (λ b h. unmasked-same p b (flags-below p m)))
 
   pub alike-settled : Alike (activeBitOf c) (settledImage x) (settledImage y)
   unfolding settledImage

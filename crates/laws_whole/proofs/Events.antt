@@ -1,17 +1,17 @@
 -- Every event in both runs: the same refusals, and what is carried out leaves a pair again.
 use mathlib.Core.Path.{_≡_, refl, sym, _∙_}
 use mathlib.Core.Bool.{true, false, not}
-use mathlib.Core.List.{List, []}
-use Prim.Native.Nat.{ℕ, _+_, _≤_, _<_}
+use mathlib.Core.List.{List}
+use Prim.Native.Nat.{ℕ, _+_, _<_}
 use native.Mathlib.Decide.{decLt}
 use native.Mathlib.Omega.{arith}
-use lib.Dec.{eqb, ltb}
-use lib.ListN.{length, take, length-take}
-use borrow.Author.Tests.{ltb-true, ltb-false, not-false}
+use lib.Dec.{eqb}
+use lib.ListN.{take}
+use borrow.Author.Tests.{ltb-true, not-false}
 use Rattle.bits.specs.Choice.{pick, either}
 use Rattle.bits.specs.Number.{field}
 use Rattle.bits.specs.Place.{get, digit}
-use Rattle.bits.proofs.Tests.{split, either-l, either-r}
+use Rattle.bits.proofs.Tests.{split, either-l}
 use Rattle.bits.proofs.Loops.{tab-at, tab-past, length-tab}
 use Rattle.model.specs.Map.{Image, applyDPInit, applyImmediate, stateAt}
 use Rattle.model.specs.Answers.{isDone}
@@ -23,10 +23,10 @@ use Rattle.model.specs.Work.{early, late}
 use Rattle.model.specs.Hardware.{hardwareImage}
 use Rattle.model.specs.Flags.{isConditionFlag, settledImage}
 use Rattle.model.specs.Pages.{indexOf}
-use Rattle.model.specs.Access.{shownByte, takenBytes, writeLimit, halfEnd, isBadAccess}
+use Rattle.model.specs.Access.{shownByte, takenBytes}
 use Rattle.model.specs.Refusals.{refuse, firstOf, noSuchLane, isBusy, isUnused, eventRefusals}
 use Rattle.model.specs.Step.{readEffect, eventEffect}
-use Rattle.model.specs.declared.answer.Answer.the-variants.{BadAccess, Busy, NoSuchTarget}
+use Rattle.model.specs.declared.answer.Answer.the-variants.{Busy, NoSuchTarget}
 use Rattle.model.specs.declared.event.Call.{Call}
 use Rattle.model.specs.declared.event.Call.the-variants.{Write, Read, Work, Hardware, Condition, Sample}
 use Rattle.model.specs.declared.lane.Working.{Working}
@@ -128,25 +128,12 @@ module _ (x y : Image) (w : Working) (S : Sound (seenOf (stateWith x w))) (P : P
   hardware-alike l b f = rw (← (same-lanes x y w S P l b (idle-passing (stageAt w l) f)), state-read (passed w) x y (P .alike) l b)
       (alike-moved (passed w) x y (P .alike) (pathOf (activeOf x) l) (stateOf (get x (stateAt l))))
 
--- an access that is not refused ends at address 255 or before
-half-end : (address : ℕ) → halfEnd address ≤ 256
-unfolding halfEnd pick
-half-end address = split (ltb address 128) (λ e. rw (e, pick) (omega arith)) (λ e. rw (e, pick) (omega arith))
-
-write-fits : (address count : ℕ) (bytes : List ℕ) → isBadAccess writeLimit address count ≡ false → address + length (take count bytes) ≤ 256
-unfolding isBadAccess
-write-fits address count bytes e =
-    let h : address + count ≤ halfEnd address = ltb-false _ _ (either-r _ _ (either-r _ _ e)) in
-    omega (arith, length-take count bytes, half-end address)
-
 -- ---- what is carried out
 module _ (x y : Image) (w : Working) (two : ℕ) (T : Well two (stateWith x w)) (P : Pair x y w) where
   pub carried-pair : (room : ℕ) (bytes : List ℕ) (c : Call) → isDone (firstOf (eventRefusals room (stateWith x w) c)) ≡ true
       → Carries (hiddenRead (stateWith x w) c) (eventEffect early (stateWith x w) bytes c) (eventEffect late (stateWith y w) bytes c)
   unfolding eventEffect eventRefusals isDone
-  carried-pair room bytes (Write address count) d =
-      let e = not-refused (refuse BadAccess (isBadAccess writeLimit address count)) [] refl d .0 in
-      leaves-pair _ (bytes-pair (take count bytes) address x y w two T P (write-fits address count bytes e))
+  carried-pair room bytes (Write address count) d = leaves-pair _ (bytes-pair (take count bytes) address x y w two T P)
   carried-pair room bytes (Read address count) d = read-carries x y w (T .sound) P address count
   carried-pair room bytes (Work l) d =
       work-carries x y w (T .sound) P _ l (lane-below l (not-refused (refuse NoSuchTarget (noSuchLane l)) _ refl d .0))

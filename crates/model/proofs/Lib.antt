@@ -1,4 +1,5 @@
--- Where descriptors and pages lie, and laws of the refusals.
+-- Where descriptors and pages lie, what every edition keeps to, and laws of the refusals.
 pub mod Descriptors
+pub mod Editions
 pub mod Starts
 pub mod Refused

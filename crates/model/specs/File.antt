@@ -1,5 +1,5 @@
 -- The night file: header, image, records (01 "The night file").
-use Prim.Native.Nat.{_+_, _*_}
+use Prim.Native.Nat.{zero, suc, _+_, _*_}
 use mathlib.Core.Bool.{Bool}
 use mathlib.Core.List.{List, [], _∷_}
 use lib.Dec.{eqb, leb, ltb}
@@ -26,7 +26,7 @@ pub record Form : Type 0 where
   pub kind : Byte
   pub used : Bytes → Count
 
--- an edition: its number, the length of its image, the forms of its records
+-- an edition: its number, how many bytes of the image it carries, the forms of its records
 pub record Edition : Type 0 where
   pub number : Byte
   pub imageBytes : Count
@@ -75,14 +75,14 @@ firstForms =
     ∷ []
 
 abbrev pub firstEdition : Edition
-firstEdition = record { number = 1; imageBytes = imageLength; forms = firstForms }
+firstEdition = record { number = 1; imageBytes = 768; forms = firstForms }
 
 -- every edition from the second on
 abbrev pub laterEditions : List Edition
 laterEditions = []
 
 -- the edition of a number; the first where no later one has it
-abbrev pub editionAmong : List Edition → Byte → Edition
+unfoldable pub editionAmong : List Edition → Byte → Edition
 editionAmong [] n = firstEdition
 editionAmong (e ∷ es) n = pick (eqb n (e .number)) e (editionAmong es n)
 
@@ -150,8 +150,22 @@ recordLimit = 5000
 unfoldable pub isWholeLength : Bytes → Bool
 isWholeLength file = eqb (length file) (recordsOffset (editionOf file) + recordLength * recordCount file)
 
-unfoldable pub imageIn : Bytes → Image
-imageIn file = take (editionOf file .imageBytes) (drop imageOffset file)
+-- the bytes of the image that a file carries
+unfoldable pub carriedImage : Bytes → Bytes
+carriedImage file = take (editionOf file .imageBytes) (drop imageOffset file)
+
+-- the first n bytes, and zeros where there are none
+unfoldable pub firstBytes : Count → Bytes → Bytes
+firstBytes zero bytes = []
+firstBytes (suc n) [] = 0 ∷ firstBytes n []
+firstBytes (suc n) (b ∷ bytes) = b ∷ firstBytes n bytes
+
+-- an image of today's length: zeros where an edition carries none
+abbrev pub laidOut : Bytes → Image
+laidOut bytes = firstBytes imageLength bytes
+
+abbrev pub imageIn : Bytes → Image
+imageIn file = laidOut (carriedImage file)
 
 -- where record k begins
 abbrev pub recordStart : Bytes → RecordIndex → Count

@@ -4,12 +4,12 @@ use mathlib.Core.Bool.{Bool}
 use lib.Dec.{eqb, ltb}
 use mathlib.Core.List.{[], _∷_}
 use Rattle.bits.specs.Choice.{pick, onlyIf, both}
-use Rattle.bits.specs.Loop.{anyBelow}
+use Rattle.bits.specs.Loop.{anyBelow, anyOf}
 use Rattle.bits.specs.Place.{put, digit}
-use Rattle.bits.specs.Sets.{Lane, LaneSet}
+use Rattle.bits.specs.Sets.{Lane, LaneSet, has}
 use Rattle.bits.specs.Word.{word, putWord}
 use Rattle.model.specs.Numbers.{Index, Address, Power, Bit}
-use Rattle.model.specs.Map.{Image, interruptBit, highAlarmLimit, lowAlarmLimit, highWarningLimit, lowWarningLimit, flagMasks, flagBytes, flagByteCount, flagAt, highAlarmFlag, lowAlarmFlag, highWarningFlag, lowWarningFlag, receivedPower, range, inRanges}
+use Rattle.model.specs.Map.{Image, interruptBit, highAlarmLimit, lowAlarmLimit, highWarningLimit, lowWarningLimit, FlagPair, flagPairs, flagAt, highAlarmFlag, lowAlarmFlag, highWarningFlag, lowWarningFlag, receivedPower, range, inRanges}
 use Rattle.model.specs.Registers.{withFlags}
 
 -- ---- conditions
@@ -42,12 +42,12 @@ sampledImage l p x =
 
 -- ---- lower 3.0
 
--- flag byte k has a bit b that is 1 and whose mask bit is 0
-unfoldable pub isUnmasked : Image → Index → Bit → Bool
-isUnmasked x k b = both (eqb (digit x (flagBytes + k) b) 1) (eqb (digit x (flagMasks + k) b) 0)
+-- bit b of a flag byte counts, is 1, and its mask bit is 0
+unfoldable pub isUnmasked : Image → FlagPair → Bit → Bool
+isUnmasked x p b = both (has (p .bits) b) (both (eqb (digit x (p .flag) b) 1) (eqb (digit x (p .mask) b) 0))
 
 unfoldable pub interrupts : Image → Bool
-interrupts x = anyBelow flagByteCount (λ k. anyBelow 8 (λ b. isUnmasked x k b))
+interrupts x = anyOf flagPairs (λ p. anyBelow 8 (λ b. isUnmasked x p b))
 
 -- lower 3.0 is 0 exactly when an unmasked flag bit is 1
 unfoldable pub settledImage : Image → Image

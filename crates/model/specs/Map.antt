@@ -8,8 +8,9 @@ use lib.Dec.{leb}
 use lib.ListN.{length, getD}
 use Rattle.bits.specs.Choice.{both, either}
 use Rattle.bits.specs.Lane.{laneField}
+use Rattle.bits.specs.Loop.{tab}
 use Rattle.bits.specs.Sets.{Lane}
-use Rattle.model.specs.Numbers.{Bytes, Count, Index, Address, SettingIndex}
+use Rattle.model.specs.Numbers.{Byte, Bytes, Count, Index, Address, SettingIndex}
 use Rattle.bits.specs.declared.Place.{Place}
 
 -- the lent image (01): lower memory and five pages of 128 bytes
@@ -152,6 +153,16 @@ flagBytes = on page11 134
 
 abbrev pub flagByteCount : Count
 flagByteCount = 20
+
+-- a flag byte, the byte that masks it bit by bit, and which of its bits count
+pub record FlagPair : Type 0 where
+  pub flag : Index
+  pub mask : Index
+  pub bits : Byte
+
+-- the flags that may pull the interrupt, with their masks: every bit of 11h:134-153 (01 "Host accesses")
+abbrev pub flagPairs : List FlagPair
+flagPairs = tab flagByteCount (λ k. record { flag = flagBytes + k; mask = flagMasks + k; bits = 0xff })
 
 -- a lane's bit of the flag byte at an address of page 11h
 abbrev pub flagAt : Address → Lane → Place

@@ -15,7 +15,7 @@ use Rattle.model.specs.Start.{startedState}
 use Rattle.model.specs.Refusals.{firstOf, startRefusals}
 use Rattle.model.specs.Step.{Stepped, step, run}
 use Rattle.model.specs.Outcome.{listRoom}
-use Rattle.model.specs.File.{Edition, laterEditions, editionAmong, editionOf, imageOffset, recordsOffset, recordCount, isHeader, recordLength, isRecord, eventOf, imageIn}
+use Rattle.model.specs.File.{Edition, laterEditions, editionAmong, editionOf, imageOffset, recordsOffset, recordCount, isHeader, recordLength, isRecord, eventOf, laidOut, imageIn}
 use Rattle.model.specs.Text.{line, badLine}
 use Rattle.model.specs.Night.{linesFrom}
 use Rattle.model.specs.declared.answer.Answer.{Answer}
@@ -115,12 +115,16 @@ unfoldable pub startedBy : Answer → Carried → Count → Image → Took
 startedBy a c records x =
     pick (isDone a) (silent (entering (InRecords 0 records) (startedState x) c)) (refused a (entering Over (withImage (c .state) x) c))
 
+-- the bytes that have come, as an image of today's length
+unfoldable pub wholeImage : Carried → Image → Image
+wholeImage c x = laidOut (take (rowOf c .imageBytes) x)
+
 -- a byte of the image in its place, judged at the last of them
 unfoldable pub tookImage : Carried → Count → Count → Image → Took
 tookImage c come records x =
     pick (ltb (suc come) (rowOf c .imageBytes))
     (silent (record { phase = InImage (suc come) records; edition = c .edition; held = c .held; state = withImage (c .state) x }))
-    (startedBy (firstOf (startRefusals x)) c records x)
+    (startedBy (firstOf (startRefusals (wholeImage c x))) c records (wholeImage c x))
 
 -- a record's step and its line
 unfoldable pub played : Carried → RecordIndex → Count → Stepped → Took

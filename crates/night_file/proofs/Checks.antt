@@ -1,5 +1,5 @@
 -- Laws of the check of a night file: its tests as code computes them, and what the check finds, in its order. Assumes nothing.
-use mathlib.Core.Path.{_≡_, refl, _∙_}
+use mathlib.Core.Path.{_≡_, refl, sym, ap, _∙_}
 use mathlib.Core.Bool.{Bool, true, false, _&&_}
 use mathlib.Core.List.{List}
 use Prim.Native.Nat.{ℕ, zero, suc, _+_, _-_, _*_, _^_, _≤_, _<_}
@@ -17,10 +17,11 @@ use Rattle.bits.proofs.Loops.{all-at, all-intro}
 use Rattle.night_file.specs.Clear.{isClear, isClearFrom, lowFirst, tailOf}
 use Rattle.model.specs.Answers.{number, isDone}
 use Rattle.model.specs.Refusals.{firstOf, startRefusals}
-use Rattle.model.specs.File.{firstEdition, recordCount, isHeader, isWholeLength, imageIn, recordStart, recordIn, usedBytes, isRecord, isWellFormed, fileCheckBy, fileCheckUpTo, recordsOffset, recordLength}
+use Rattle.model.specs.File.{firstEdition, editionOf, recordCount, isHeader, isWholeLength, imageIn, recordIn, usedBytes, isRecord, isWellFormed, fileCheckBy, fileCheckUpTo, imageOffset, recordsOffset, recordLength}
 use Rattle.model.specs.declared.answer.Answer.{Answer}
 use Rattle.model.specs.declared.answer.Answer.the-variants.{Malformed}
 use Rattle.model.specs.declared.file.FileCheck.the-variants.{Refused, Good}
+use Rattle.model.proofs.Editions.{records-alike}
 
 -- ---- tests
 -- tests joined by `&`
@@ -45,27 +46,35 @@ pub all-fails : (n k : ℕ) (p : ℕ → Bool) → k < n → p k ≡ false → a
 all-fails n k p h e = split (allBelow n p) (λ a. absurd (clash (all-at n p a k h) e)) (λ a. a)
 
 -- ---- the frame
-pub short-frame : (limit : ℕ) (file : List ℕ) → length file < recordsOffset firstEdition → both (isHeader limit file) (isWholeLength file) ≡ false
+pub short-frame : (limit : ℕ) (file : List ℕ) → length file < imageOffset → both (isHeader limit file) (isWholeLength file) ≡ false
 unfolding isWholeLength
-short-frame limit file h = both-right _ _ (ne-eqb (length file) (recordsOffset firstEdition + recordLength * recordCount file) (omega arith))
+short-frame limit file h = both-right _ _ (ne-eqb (length file) (recordsOffset (editionOf file) + recordLength * recordCount file) (omega arith))
 
-pub framed-length : (limit : ℕ) (file : List ℕ) → both (isHeader limit file) (isWholeLength file) ≡ true → length file ≡ recordsOffset firstEdition + recordLength * recordCount file
+pub framed-length : (limit : ℕ) (file : List ℕ) → both (isHeader limit file) (isWholeLength file) ≡ true
+    → length file ≡ recordsOffset (editionOf file) + recordLength * recordCount file
 unfolding isWholeLength
 framed-length limit file e = eqb-true _ _ (both-r _ _ e)
 
 -- ---- the records of a file
 -- whether record k is one
 abbrev pub isRecordIn : List ℕ → ℕ → Bool
-isRecordIn file k = isRecord firstEdition (recordIn file k)
+isRecordIn file k = isRecord (editionOf file) (recordIn file k)
 
 -- a record's bytes as the part that is lent
 pub part-from : (at : ℕ) (bytes : List ℕ) → take (at + recordLength - at) (drop at bytes) ≡ take recordLength (drop at bytes)
 part-from at bytes = let e : at + recordLength - at ≡ recordLength = omega arith in rw e
 
--- and those of record k
-pub part-record : (file : List ℕ) (k : ℕ) → take (recordStart file k + recordLength - recordStart file k) (drop (recordStart file k) file) ≡ recordIn file k
-unfolding recordIn
-part-record file k = part-from (recordStart file k) file
+-- and those of record k, by where the records begin
+module _ (file : List ℕ) (offset k : ℕ) (begins : offset ≡ recordsOffset (editionOf file)) where
+  abbrev pub recordPart : List ℕ
+  recordPart = take (offset + recordLength * k + recordLength - (offset + recordLength * k)) (drop (offset + recordLength * k) file)
+
+  pub part-record : recordPart ≡ recordIn file k
+  unfolding recordIn
+  part-record = part-from (offset + recordLength * k) file ∙ ap (λ at. take recordLength (drop (at + recordLength * k) file)) begins
+
+  pub part-is : isRecord firstEdition recordPart ≡ isRecordIn file k
+  part-is = ap (isRecord firstEdition) part-record ∙ sym (records-alike (getD file 2 0) (recordIn file k))
 
 -- ---- one record
 module _ (used : ℕ) (bytes : List ℕ) where

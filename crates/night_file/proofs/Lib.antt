@@ -1,2 +1,3 @@
--- The laws of the check of a file.
+-- The laws of the check of a file, and of its image.
 pub mod Checks
+pub mod Images

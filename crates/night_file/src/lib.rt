@@ -1,29 +1,36 @@
 // Night files: header, records, the check of a whole file, and the event of each of its records.
 ghost use mathlib.Core.Path.{_≡_};
 ghost use Prim.Native.Nat.{_+_, _*_, _^_, _≤_, _<_};
-ghost use lib.ListN.{length};
+ghost use lib.ListN.{length, take, drop};
 ghost use lib.Dec.{ltb};
+ghost use lib.Seq.{paste};
 ghost use Rattle.bits.specs.Choice.{pick, both};
 ghost use Rattle.bits.specs.Loop.{allBelow};
-ghost use Rattle.model.specs.File.{firstEdition, isHeader, isWholeLength, recordCount, writtenBytes, isRecord, callOf, eventOf, recordIn, fileCheck, imageOffset, recordsOffset, recordLimit, recordLength};
+ghost use Rattle.model.specs.Map.{imageLength};
+ghost use Rattle.model.specs.Refusals.{firstOf, startRefusals};
+ghost use Rattle.model.specs.File.{firstEdition, laterEditions, editionAmong, editionOf, isHeader, isWholeLength, recordCount, writtenBytes, isRecord, callOf, eventOf, laidOut, recordIn, fileCheck, imageOffset, recordsOffset, recordLimit, recordLength};
 ghost use Rattle.night_file.specs.Clear.{tailOf, isClearFrom};
+use map::IMAGE_LENGTH;
 use model::answer::Answer;
 use model::event::Call;
 use model::event::Event;
 use model::file::FileCheck;
 
-// The header: its two letters, the edition, and the three numbers behind them.
+// The editions: their numbers, and how many bytes of the image they carry.
+const FIRST_EDITION: u8 = 1;
+
+const FIRST_IMAGE_BYTES: usize = 768;
+
+// The header: its two letters, and where its numbers and the image lie.
 const LETTER_W: u8 = 0x57;
 
 const LETTER_L: u8 = 0x4c;
 
-const EDITION: u8 = 1;
+const EDITION_AT: usize = 2;
 
 const COUNT_AT: usize = 4;
 
 pub const IMAGE_OFFSET: usize = 16;
-
-pub const RECORDS_OFFSET: usize = IMAGE_OFFSET + map::IMAGE_LENGTH;
 
 pub const RECORD_LENGTH: usize = 12;
 
@@ -44,6 +51,40 @@ const SAMPLE: u8 = 6;
 
 const DATA_LIMIT: u8 = 8;
 
+// An edition of the file: its number, and how many bytes of the image it carries.
+struct Edition {
+    number: u8,
+    image_bytes: usize,
+}
+
+// The edition of a number; the first where no later one has it.
+fn edition_of(number: u8) -> Edition
+    ensures { λ r. ⌜ (r .number ≡ editionAmong laterEditions number .number) × (r .«image_bytes» ≡ editionAmong laterEditions number .imageBytes) ⌝ }
+{
+    match number {
+        _ => Edition {
+            number: FIRST_EDITION,
+            image_bytes: FIRST_IMAGE_BYTES,
+        },
+    }
+}
+
+// How many bytes of the image an edition carries.
+pub fn image_bytes(edition: u8) -> usize
+    ensures { λ r. ⌜ r ≡ editionAmong laterEditions edition .imageBytes ⌝ }
+{
+    let row = edition_of(edition);
+    row.image_bytes
+}
+
+// Where the records of a file begin: they follow its image.
+pub fn records_offset(header: &[u8]) -> usize
+    requires { ⌜ imageOffset ≤ length (now header) ⌝ }
+    ensures { λ r. ⌜ r ≡ recordsOffset (editionOf (now (header .entry))) ⌝ }
+{
+    IMAGE_OFFSET + image_bytes(header[EDITION_AT])
+}
+
 // How many records a header counts.
 pub fn record_count(header: &[u8]) -> u32
     requires { ⌜ imageOffset ≤ length (now header) ⌝ }
@@ -57,25 +98,25 @@ pub fn is_header(header: &[u8], limit: u32) -> bool
     requires { ⌜ imageOffset ≤ length (now header) ⌝ }
     ensures { λ r. ⌜ r ≡ isHeader limit (now (header .entry)) ⌝ }
 {
+    let edition = edition_of(header[EDITION_AT]);
     let letters = (header[0] == LETTER_W) & (header[1] == LETTER_L);
-    let edition = (header[2] == EDITION) & (header[3] == 0);
+    let known = (header[EDITION_AT] == edition.number) & (header[3] == 0);
     let count = record_count(header);
     let image_at = bits_words::word4(header, 8) as usize;
     let records_at = bits_words::word4(header, 12) as usize;
-    letters
-        & (edition
-            & ((count <= limit) & ((image_at == IMAGE_OFFSET) & (records_at == RECORDS_OFFSET))))
+    let offset = IMAGE_OFFSET + edition.image_bytes;
+    letters & (known & ((count <= limit) & ((image_at == IMAGE_OFFSET) & (records_at == offset))))
 }
 
 // Whether the header and the length of a file are right.
 fn is_framed(file: &[u8]) -> bool
     ensures { λ r. ⌜ r ≡ both (isHeader recordLimit (now (file .entry))) (isWholeLength (now (file .entry))) ⌝ }
 {
-    if file.len() < RECORDS_OFFSET {
+    if file.len() < IMAGE_OFFSET {
         return false;
     }
     let count = record_count(file) as usize;
-    let whole = file.len() == RECORDS_OFFSET + RECORD_LENGTH * count;
+    let whole = file.len() == records_offset(file) + RECORD_LENGTH * count;
     is_header(file, RECORD_LIMIT) & whole
 }
 
@@ -167,17 +208,56 @@ pub fn is_record(bytes: &[u8]) -> bool
 }
 
 // Whether every record of a file is one.
-fn are_records(file: &[u8], count: u32) -> bool
-    requires { ⌜ recordsOffset firstEdition + recordLength * count ≤ length (now file) ⌝ }
-    ensures { λ r. ⌜ r ≡ allBelow count (λ k. isRecord firstEdition (recordIn (now (file .entry)) k)) ⌝ }
+fn are_records(file: &[u8], offset: usize, count: u32) -> bool
+    requires { ⌜ (offset ≡ recordsOffset (editionOf (now file))) × (offset + recordLength * count ≤ length (now file)) ⌝ }
+    ensures { λ r. ⌜ r ≡ allBelow count (λ k. isRecord (editionOf (now (file .entry))) (recordIn (now (file .entry)) k)) ⌝ }
 {
     for k in 0..count {
-        let at = RECORDS_OFFSET + RECORD_LENGTH * (k as usize);
+        let at = offset + RECORD_LENGTH * (k as usize);
         if !is_record(&file[at..at + RECORD_LENGTH]) {
             return false;
         }
     }
     true
+}
+
+// Bytes of a file, straight into an image.
+pub fn copy_bytes(image: &mut [u8], at: usize, bytes: &[u8], from: usize, n: usize)
+    requires { ⌜ (at + n ≤ length (now image)) × (from + n ≤ length (now bytes)) ⌝ }
+    ensures { λ _. ⌜ now (image .exit) ≡ paste (now (image .entry)) at (drop from (now (bytes .entry))) n ⌝ }
+{
+    for i in 0..n {
+        image[at + i] = bytes[from + i];
+    }
+}
+
+// Zeros in an image from a byte on: those before it are laid out at today's length.
+pub fn clear_rest(image: &mut [u8], n: usize)
+    requires { ⌜ (length (now image) ≡ imageLength) × (n ≤ imageLength) ⌝ }
+    ensures { λ _. ⌜ now (image .exit) ≡ laidOut (take n (now (image .entry))) ⌝ }
+{
+    for i in n..IMAGE_LENGTH {
+        image[i] = 0;
+    }
+}
+
+// The bytes that a file carries of its image, laid out at today's length.
+pub fn lay_out(carried: &[u8], image: &mut [u8])
+    requires { ⌜ (length (now carried) ≤ imageLength) × (length (now image) ≡ imageLength) ⌝ }
+    ensures { λ _. ⌜ now (image .exit) ≡ laidOut (now (carried .entry)) ⌝ }
+{
+    copy_bytes(image, 0, carried, 0, carried.len());
+    clear_rest(image, carried.len())
+}
+
+// What start has against the image that a file carries, or that it takes it.
+fn image_refusal(carried: &[u8]) -> Answer
+    requires { ⌜ length (now carried) ≤ imageLength ⌝ }
+    ensures { λ r. ⌜ r ≡ firstOf (startRefusals (laidOut (now (carried .entry)))) ⌝ }
+{
+    let mut image = [0u8; IMAGE_LENGTH];
+    lay_out(carried, &mut image);
+    start_image::refusal(&image)
 }
 
 // The check of a whole file: malformed first, then what start answers to its image.
@@ -188,10 +268,11 @@ pub fn check(file: &[u8]) -> FileCheck
         return FileCheck::Refused(Answer::Malformed);
     }
     let count = record_count(file);
-    if !are_records(file, count) {
+    let offset = records_offset(file);
+    if !are_records(file, offset, count) {
         return FileCheck::Refused(Answer::Malformed);
     }
-    let answer = start_image::refusal(&file[IMAGE_OFFSET..RECORDS_OFFSET]);
+    let answer = image_refusal(&file[IMAGE_OFFSET..offset]);
     if answer.number() != 0 {
         return FileCheck::Refused(answer);
     }

@@ -1,13 +1,15 @@
 // One record of a night file: its event, and then its line.
 ghost use mathlib.Core.Path.{_≡_};
 ghost use Prim.Native.Nat.{_+_, _≤_};
+ghost use lib.Dec.{eqb};
 ghost use lib.ListN.{length};
+ghost use Rattle.bits.specs.Choice.{pick};
 ghost use Rattle.model.specs.Work.{early};
 ghost use Rattle.model.specs.Step.{step};
 ghost use Rattle.model.specs.State.{stateWith};
 ghost use Rattle.model.specs.Outcome.{listRoom};
 ghost use Rattle.model.specs.File.{eventOf, recordLength};
-ghost use Rattle.night_lines.specs.Lines.{shownBy, Turns};
+ghost use Rattle.night_lines.specs.Lines.{readCount, Turns};
 ghost use Rattle.model.specs.Map.{imageLength};
 ghost use Rattle.model.specs.Text.{decimal};
 ghost use Rattle.night_text.specs.Buffer.{lineRoom};
@@ -21,13 +23,10 @@ pub struct Reached {
     pub working: Working,
 }
 
-// How many bytes the line of an event shows, by its answer's number.
-fn shown(answer: u8, call: Call) -> usize
-    ensures { λ r. ⌜ r ≡ shownBy answer call ⌝ }
+// How many bytes the line of a call shows that is done.
+fn read_count(call: Call) -> usize
+    ensures { λ r. ⌜ r ≡ readCount call ⌝ }
 {
-    if answer != 0 {
-        return 0;
-    }
     match call {
         Call::Write {
             address: _,
@@ -39,6 +38,16 @@ fn shown(answer: u8, call: Call) -> usize
         Call::Condition { flag: _, mask: _ } => 0,
         Call::Sample { lane: _, power: _ } => 0,
     }
+}
+
+// How many of them it shows, by its answer's number.
+fn shown(answer: u8, count: usize) -> usize
+    ensures { λ r. ⌜ r ≡ pick (eqb answer 0) count 0 ⌝ }
+{
+    if answer != 0 {
+        return 0;
+    }
+    count
 }
 
 // A record's turn: its event, then its line.
@@ -55,12 +64,13 @@ pub fn turn(
 {
     let event = night_file::event_of(bytes);
     let call = event.call;
+    let asked = read_count(call);
     let at = reached.at;
     let left = step::step(image, reached.working, event, buffer);
     let working = left.working;
     let answer = left.answer;
     let number = answer.number();
-    let count = shown(number, call);
+    let count = shown(number, asked);
     let at = night_text::put_line(out, at, index, number, buffer, count);
     Reached { at, working }
 }

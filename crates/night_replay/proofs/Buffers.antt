@@ -1,19 +1,15 @@
--- Laws of the buffers of a replay: the copy of a file's image, and the text over the front of what was lent. Assumes nothing.
+-- Laws of the buffer of a replay: the text over the front of what was lent. Assumes nothing.
 use mathlib.Core.Path.{_≡_, sym, ap, _∙_}
-use mathlib.Core.List.{List, _++_, append-nil}
+use mathlib.Core.List.{List}
 use Prim.Native.Nat.{ℕ, _≤_, _<_}
 use native.Mathlib.Nat.{zero-add}
-use lib.ListN.{length, take, drop, drop-of-length-le}
+use lib.ListN.{length}
 use borrow.Author.Tests.{lt-ltb, le-ltb}
 use Rattle.bits.proofs.Tests.{pick-true, pick-false}
 use Rattle.model.specs.Outcome.{laidOver}
 use Rattle.night_text.specs.Buffer.{laidAt, Puts}
 use Rattle.contracts.specs.Texts.{answerFor, leftIn, Gives}
 use Rattle.contracts.specs.declared.Replayed.the-variants.{ShortBuffer, Printed}
-
--- a copy of all that was there
-pub copy-whole : (s d : List ℕ) (n : ℕ) → length d ≤ n → take n s ++ drop n d ≡ take n s
-copy-whole s d n h = rw (drop-of-length-le d {i = n} h) (append-nil (take n s))
 
 -- text from the front on lies over the front
 laid-front : (text buffer : List ℕ) → laidAt 0 text buffer ≡ laidOver text buffer

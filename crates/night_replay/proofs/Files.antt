@@ -12,7 +12,7 @@ use Rattle.model.specs.Refusals.{firstOf, startRefusals}
 use Rattle.model.specs.Start.{startedState}
 use Rattle.model.specs.Records.{idleWorking}
 use Rattle.model.specs.State.{stateWith}
-use Rattle.model.specs.File.{firstEdition, recordCount, isHeader, imageIn, eventsIn, isWellFormed, fileCheckBy, fileCheckUpTo, fileCheck, recordsOffset, recordLength, recordLimit}
+use Rattle.model.specs.File.{editionOf, recordCount, isHeader, imageIn, eventsIn, isWellFormed, fileCheckBy, fileCheckUpTo, fileCheck, recordsOffset, recordLength, recordLimit}
 use Rattle.model.specs.Text.{badLine}
 use Rattle.model.specs.Night.{nightOf, printedTextBy, printedUpTo, printedText}
 use Rattle.model.specs.declared.answer.Answer.{Answer}
@@ -22,7 +22,7 @@ use Rattle.night_replay.specs.Replay.{textAfter}
 
 -- a good file has its whole length, and its count is its header's
 pub record IsGood (file : List ℕ) (count : ℕ) : Type 0 where
-  pub whole : length file ≡ recordsOffset firstEdition + recordLength * count
+  pub whole : length file ≡ recordsOffset (editionOf file) + recordLength * count
   pub few : count ≤ recordLimit
   pub counted : recordCount file ≡ count
 

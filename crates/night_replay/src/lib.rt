@@ -6,7 +6,7 @@ ghost use Rattle.model.specs.Answers.{number};
 ghost use Rattle.model.specs.Start.{startedState};
 ghost use Rattle.model.specs.Records.{idleWorking};
 ghost use Rattle.model.specs.State.{stateWith};
-ghost use Rattle.model.specs.File.{firstEdition, imageIn, fileCheck, recordsOffset, recordLength, recordLimit};
+ghost use Rattle.model.specs.File.{editionOf, imageIn, fileCheck, recordsOffset, recordLength, recordLimit};
 ghost use Rattle.model.specs.Text.{badLine};
 ghost use Rattle.model.specs.Night.{printedText};
 ghost use Rattle.model.specs.declared.file.FileCheck.the-variants as found;
@@ -23,7 +23,6 @@ use model::file::FileCheck;
 use model::lane::Working;
 use night_file::IMAGE_OFFSET;
 use night_file::RECORD_LENGTH;
-use night_file::RECORDS_OFFSET;
 use night_lines::Reached;
 
 // The room that a record's line asks for, and a bad line.
@@ -34,34 +33,31 @@ const BAD_ROOM: usize = 7;
 // What C is answered where the buffer is too short.
 const SHORT_BUFFER: usize = 18446744073709551615;
 
-// A file's image.
-fn copy_image(file: &[u8], image: &mut [u8])
-    requires { ⌜ (recordsOffset firstEdition ≤ length (now file)) × (length (now image) ≡ imageLength) ⌝ }
-    ensures { λ _. ⌜ now (image .exit) ≡ imageIn (now (file .entry)) ⌝ }
-{
-    for i in 0..IMAGE_LENGTH {
-        image[i] = file[IMAGE_OFFSET + i];
-    }
-}
-
 // A file's image, as a module starts with it.
-fn start_image(file: &[u8], image: &mut [u8])
-    requires { ⌜ (recordsOffset firstEdition ≤ length (now file)) × (length (now image) ≡ imageLength) ⌝ }
+fn start_image(file: &[u8], offset: usize, image: &mut [u8])
+    requires { ⌜ (offset ≡ recordsOffset (editionOf (now file))) × (offset ≤ length (now file)) × (length (now image) ≡ imageLength) ⌝ }
     ensures { λ _. ⌜ now (image .exit) ≡ (startedState (imageIn (now (file .entry)))) .image ⌝ }
 {
-    copy_image(file, image);
+    night_file::lay_out(&file[IMAGE_OFFSET..offset], image);
     start_image::reset(image)
 }
 
 // The records of a file, each with its turn, from an image with all lanes idle.
-fn play(image: &mut [u8], buffer: &mut [u8], file: &[u8], count: u32, out: &mut [u8]) -> usize
-    requires { ⌜ (length (now image) ≡ imageLength) × (length (now buffer) ≡ readLimit) × (recordsOffset firstEdition + recordLength * count ≤ length (now file)) × (count ≤ recordLimit) × (lineRoom 4 * count ≤ length (now out)) ⌝ }
+fn play(
+    image: &mut [u8],
+    buffer: &mut [u8],
+    file: &[u8],
+    offset: usize,
+    count: u32,
+    out: &mut [u8],
+) -> usize
+    requires { ⌜ (length (now image) ≡ imageLength) × (length (now buffer) ≡ readLimit) × (offset ≡ recordsOffset (editionOf (now file))) × (offset + recordLength * count ≤ length (now file)) × (count ≤ recordLimit) × (lineRoom 4 * count ≤ length (now out)) ⌝ }
     ensures { λ r. ⌜ Puts 0 (textAfter (stateWith (now (image .entry)) idleWorking) (now (file .entry)) count) (now (out .entry)) (now (out .exit)) r ⌝ }
 {
     let working = Working::idle();
     let mut reached = Reached { at: 0, working };
     for k in 0..count {
-        let at = RECORDS_OFFSET + RECORD_LENGTH * (k as usize);
+        let at = offset + RECORD_LENGTH * (k as usize);
         reached = night_lines::turn(
             image,
             reached,
@@ -84,8 +80,9 @@ fn print_good(file: &[u8], count: u32, out: &mut [u8]) -> Replayed
     }
     let mut image = [0u8; IMAGE_LENGTH];
     let mut buffer = [0u8; READ_LIMIT];
-    start_image(file, &mut image);
-    let n = play(&mut image, &mut buffer, file, count, out);
+    let offset = night_file::records_offset(file);
+    start_image(file, offset, &mut image);
+    let n = play(&mut image, &mut buffer, file, offset, count, out);
     Replayed::Printed(n)
 }
 

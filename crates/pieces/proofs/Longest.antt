@@ -14,7 +14,7 @@ use Rattle.model.specs.Step.{step}
 use Rattle.model.specs.Outcome.{listRoom}
 use Rattle.model.specs.Refusals.{firstOf, startRefusals}
 use Rattle.model.specs.File.{imageOffset, recordLength, isHeader, isRecord, eventOf}
-use Rattle.model.specs.Stream.{Carried, Took, countLimit, rowOf, silent, refused, tookHeader, startedBy, tookImage, played, tookRecord, tookIn, took, endedIn, ended}
+use Rattle.model.specs.Stream.{Carried, Took, countLimit, rowOf, silent, refused, tookHeader, startedBy, wholeImage, tookImage, played, tookRecord, tookIn, took, endedIn, ended}
 use Rattle.model.specs.declared.answer.Answer.{Answer}
 use Rattle.model.specs.declared.answer.Answer.the-variants.{Malformed}
 use Rattle.model.specs.declared.event.Event.{Event}
@@ -51,7 +51,7 @@ module _ (c : Carried) where
   unfolding tookImage startedBy
   image-fits come records x =
       pick-has Fits (ltb (suc come) (rowOf c .imageBytes)) (λ _. quiet)
-      (λ _. pick-has Fits (isDone (firstOf (startRefusals x))) (λ _. quiet) (λ _. refused-fits _ _))
+      (λ _. pick-has Fits (isDone (firstOf (startRefusals (wholeImage c x)))) (λ _. quiet) (λ _. refused-fits _ _))
 
   record-fits : (next : RecordIndex) (records : Count) (bytes : List ℕ) → Fits (tookRecord c next records bytes)
   unfolding tookRecord

@@ -19,11 +19,12 @@ use Rattle.model.specs.Step.{step}
 use Rattle.model.specs.Outcome.{listRoom}
 use Rattle.model.specs.Answers.{number}
 use Rattle.model.specs.Text.{line}
-use Rattle.model.specs.File.{firstEdition, recordLength, isRecord, eventOf}
+use Rattle.model.specs.File.{laterEditions, editionAmong, recordLength, isRecord, eventOf}
 use Rattle.model.specs.Stream as stream
 use Rattle.model.specs.Stream.{Took, silent, played, took, fed}
 use Rattle.model.specs.declared.stream.Phase.{Phase}
 use Rattle.model.specs.declared.stream.Phase.the-variants.{InImage, InRecords, Over}
+use Rattle.model.proofs.Editions.{edition-fits, records-alike}
 use Rattle.laws_stream.proofs.Stretches.{over-stays, image-held}
 use Rattle.night_text.proofs.Laid.{length-laid, puts-within}
 use Rattle.night_text.proofs.Lines.{length-any-index}
@@ -63,7 +64,7 @@ abbrev pub overImage : Feeding → ℕ → ℕ → ℕ → Feeding
 overImage f come records n = record { taken = f .taken + n; at = f .at; carried = inPhase (InImage (come + n) records) (f .carried) }
 
 module _ (f : Feeding) (x left : Image) (piece out : List ℕ) (come records n : ℕ) (tidy : IsTidy (f .carried)) (phase : f .carried .phase ≡ InImage come records)
-    (whole : length x ≡ imageLength) (short : come + n < imageLength) (there : f .taken + n ≤ length piece) (copied : left ≡ paste x come (drop (f .taken) piece) n)
+    (whole : length x ≡ imageLength) (short : come + n < editionAmong laterEditions (f .carried .edition) .imageBytes) (there : f .taken + n ≤ length piece) (copied : left ≡ paste x come (drop (f .taken) piece) n)
     (room : f .at + longestLine ≤ length out) where
   abbrev bytes : List ℕ
   bytes = take n (drop (f .taken) piece)
@@ -74,7 +75,7 @@ module _ (f : Feeding) (x left : Image) (piece out : List ℕ) (come records n :
   image-silent : fed (carriedBy (f .carried) x) bytes ≡ silent (carriedBy (overImage f come records n .carried) left)
   unfolding carriedBy heldIn
   image-silent =
-      image-held (carriedBy (f .carried) x) come records bytes phase (omega (arith, some)) (omega (arith, some))
+      image-held (carriedBy (f .carried) x) come records bytes phase (omega (arith, some)) (omega (arith, some, edition-fits (f .carried .edition)))
       ∙ rw (some, copied) refl
 
   pub image-goes : Goes piece (standing f x out) (overImage f come records n) left out
@@ -119,9 +120,9 @@ module _ (edition records : ℕ) (piece : List ℕ) where
     unfolding canPlay
     room = leb-true _ _ (both-r _ _ (both-l _ _ plays))
 
-    good : isRecord firstEdition (recordAt (r .taken) piece) ≡ true
+    good : isRecord (editionAmong laterEditions edition) (recordAt (r .taken) piece) ≡ true
     unfolding canPlay
-    good = both-r _ _ plays
+    good = records-alike edition (recordAt (r .taken) piece) ∙ both-r _ _ plays
 
     record-same : going (betweenAt edition records (afterRecord r piece)) (drop (r .taken + recordLength) piece) ≡ going (betweenAt edition records r) (drop (r .taken) piece)
     unfolding afterStep played

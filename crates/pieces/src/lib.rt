@@ -2,8 +2,7 @@
 ghost use mathlib.Core.Path.{_≡_};
 ghost use mathlib.Core.List.{[]};
 ghost use Prim.Native.Nat.{_+_, _≤_, _<_};
-ghost use lib.ListN.{length, drop};
-ghost use lib.Seq.{paste};
+ghost use lib.ListN.{length};
 ghost use Rattle.model.specs.Map.{imageLength};
 ghost use Rattle.model.specs.Stream.{begun};
 ghost use Rattle.model.specs.declared.stream.Phase.the-variants as phase;
@@ -39,22 +38,12 @@ pub fn begin() -> Carried
     pieces_bytes::begun()
 }
 
-// Bytes of a piece, straight into the lent image.
-fn copy_bytes(image: &mut [u8], at: usize, piece: &[u8], from: usize, n: usize)
-    requires { ⌜ (at + n ≤ length (now image)) × (from + n ≤ length (now piece)) ⌝ }
-    ensures { λ _. ⌜ now (image .exit) ≡ paste (now (image .entry)) at (drop from (now (piece .entry))) n ⌝ }
+// How many bytes of an image of a length are copied: those that are there, but not the image's last.
+fn copied_bytes(length: usize, come: usize, there: usize) -> usize
+    requires { ⌜ come < length ⌝ }
+    ensures { λ r. ⌜ (r ≤ there) × (come + r < length) ⌝ }
 {
-    for i in 0..n {
-        image[at + i] = piece[from + i];
-    }
-}
-
-// How many bytes of an image are copied: those that are there, but not the image's last.
-fn image_bytes(come: usize, there: usize) -> usize
-    requires { ⌜ come < imageLength ⌝ }
-    ensures { λ r. ⌜ (r ≤ there) × (come + r < imageLength) ⌝ }
-{
-    let missing = IMAGE_LENGTH - come;
+    let missing = length - come;
     if there < missing {
         return there;
     }
@@ -67,14 +56,15 @@ fn image_ahead(image: &mut [u8], f: Feeding, come: u16, records: u32, piece: &[u
     ensures { λ r. ⌜ GoesSilently (now (piece .entry)) f (now (image .entry)) r (now (image .exit)) ⌝ }
 {
     let at = come as usize;
-    if IMAGE_LENGTH <= at {
+    let c = f.carried;
+    let length = night_file::image_bytes(c.edition);
+    if length <= at {
         return f;
     }
-    let c = f.carried;
     let held = c.held;
     let working = c.working;
-    let n = image_bytes(at, piece.len() - f.taken);
-    copy_bytes(image, at, piece, f.taken, n);
+    let n = copied_bytes(length, at, piece.len() - f.taken);
+    night_file::copy_bytes(image, at, piece, f.taken, n);
     Feeding {
         taken: f.taken + n,
         at: f.at,

@@ -21,6 +21,7 @@ use Rattle.model.specs.Stream as stream
 use Rattle.model.specs.Stream.{refused, played, tookRecord}
 use Rattle.model.specs.declared.answer.Answer.the-variants.{Malformed}
 use Rattle.model.specs.declared.stream.Phase.{Phase}
+use Rattle.model.proofs.Editions.{records-alike}
 use Rattle.pieces_bytes.specs.Carrying.{heldRoom, heldCount, heldIn, carriedBy, padded, kept, IsTidy}
 use Rattle.pieces_bytes.specs.declared.Carried.{Carried}
 
@@ -152,6 +153,9 @@ pub took-padded : (m : stream.Carried) (next records : ℕ) (h : List ℕ) → r
 unfolding tookRecord
 took-padded m next records h l f = split (ltb next records)
     (λ due. pick-true _ _ due ∙ pick-false _ _ (le-ltb (length (padded h)) recordLength (omega (arith, length-padded h f)))
-    ∙ (λ i. pick (record-alike (padded h) h (λ j _. reads-padded h j) i) (played m next records (step early listRoom (m .state) (event-alike (padded h) h (λ j _. reads-padded h j) i))) (refused Malformed m))
+    ∙ (λ i. pick (row-alike i) (played m next records (step early listRoom (m .state) (event-alike (padded h) h (λ j _. reads-padded h j) i))) (refused Malformed m))
     ∙ sym (pick-true _ _ due ∙ pick-false _ _ (le-ltb _ _ l)))
     (λ none. pick-false _ _ none ∙ sym (pick-false _ _ none))
+  where
+    row-alike : isRecord (stream.rowOf m) (padded h) ≡ isRecord (stream.rowOf m) h
+    row-alike = records-alike (m .edition) (padded h) ∙ record-alike (padded h) h (λ j _. reads-padded h j) ∙ sym (records-alike (m .edition) h)

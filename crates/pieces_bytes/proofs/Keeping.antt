@@ -16,7 +16,7 @@ use Rattle.model.specs.Answers.{isDone}
 use Rattle.model.specs.Refusals.{firstOf, startRefusals}
 use Rattle.model.specs.File.{imageOffset, recordLength, isHeader, isRecord}
 use Rattle.model.specs.Stream as stream
-use Rattle.model.specs.Stream.{Took, countLimit, rowOf, refused, tookHeader, startedBy, tookImage, played, tookRecord, tookIn, took}
+use Rattle.model.specs.Stream.{Took, countLimit, rowOf, refused, tookHeader, startedBy, wholeImage, tookImage, played, tookRecord, tookIn, took}
 use Rattle.model.specs.declared.answer.Answer.{Answer}
 use Rattle.model.specs.declared.answer.Answer.the-variants.{Malformed}
 use Rattle.model.specs.declared.stream.Phase.{Phase}
@@ -65,7 +65,7 @@ image-short : (c : stream.Carried) (come records : ℕ) (x : Image) → length (
 unfolding tookImage startedBy
 image-short c come records x h =
     pick-has IsShort (ltb (suc come) (rowOf c .imageBytes)) (λ _. record { few = h })
-    (λ _. pick-has IsShort (isDone (firstOf (startRefusals x))) (λ _. record { few = omega arith }) (λ _. refused-short _ _))
+    (λ _. pick-has IsShort (isDone (firstOf (startRefusals (wholeImage c x)))) (λ _. record { few = omega arith }) (λ _. refused-short _ _))
 
 record-short : (c : stream.Carried) (next records : ℕ) (bytes : List ℕ) → IsShort (tookRecord c next records bytes)
 unfolding tookRecord played

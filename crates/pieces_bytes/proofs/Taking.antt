@@ -5,11 +5,11 @@ use mathlib.Core.List.{List, []}
 use Prim.Native.Nat.{ℕ, suc, _≤_, _<_}
 use native.Mathlib.Nat.{add-zero}
 use lib.Dec.{leb, eqb}
-use lib.ListN.{length, getD}
+use lib.ListN.{length, getD, take}
 use borrow.Author.Tests.{lt-ltb, le-ltb}
 use Rattle.bits.specs.Choice.{both}
 use Rattle.bits.proofs.Tests.{pick-true, pick-false}
-use Rattle.model.specs.Map.{Image, imageLength}
+use Rattle.model.specs.Map.{Image}
 use Rattle.model.specs.State.{withImage}
 use Rattle.model.specs.Work.{early}
 use Rattle.model.specs.Answers.{isDone}
@@ -17,12 +17,13 @@ use Rattle.model.specs.Start.{startedState}
 use Rattle.model.specs.Refusals.{firstOf, startRefusals}
 use Rattle.model.specs.Step.{step}
 use Rattle.model.specs.Outcome.{listRoom}
-use Rattle.model.specs.File.{imageOffset, recordCount, isHeader, firstEdition, recordLength, isRecord, eventOf}
-use Rattle.model.specs.Stream.{Carried, countLimit, silent, entering, holding, refused, tookHeader, startedBy, tookImage, played, tookRecord, tookIn, took, endedIn, ended}
+use Rattle.model.specs.File.{imageOffset, recordCount, isHeader, firstEdition, recordLength, isRecord, eventOf, laidOut}
+use Rattle.model.specs.Stream.{Carried, countLimit, rowOf, silent, entering, holding, refused, tookHeader, startedBy, wholeImage, tookImage, played, tookRecord, tookIn, took, endedIn, ended}
 use Rattle.model.specs.declared.answer.Answer.{Answer}
 use Rattle.model.specs.declared.answer.Answer.the-variants.{Malformed}
 use Rattle.model.specs.declared.stream.Phase.{Phase}
 use Rattle.model.specs.declared.stream.Phase.the-variants.{InImage, InRecords, Over}
+use Rattle.model.proofs.Editions.{records-alike}
 use Rattle.night_text.specs.Buffer.{Puts}
 use Rattle.night_text.proofs.Laid.{laid-none}
 
@@ -62,14 +63,15 @@ module _ (m : Carried) (records : ℕ) (x : Image) where
   unfolding startedBy
   start-done a e = pick-true _ _ e
 
-  pub image-waits : (come : ℕ) → suc come < imageLength
+  pub image-waits : (come : ℕ) → suc come < rowOf m .imageBytes
       → tookImage m come records x ≡ silent (record { phase = InImage (suc come) records; edition = m .edition; held = m .held; state = withImage (m .state) x })
   unfolding tookImage
   image-waits come h = pick-true _ _ (lt-ltb _ _ h)
 
-  pub image-whole : (come : ℕ) → imageLength ≤ suc come → tookImage m come records x ≡ startedBy (firstOf (startRefusals x)) m records x
-  unfolding tookImage
-  image-whole come h = pick-false _ _ (le-ltb _ _ h)
+  pub image-whole : (come : ℕ) (y : Image) → rowOf m .imageBytes ≤ suc come → y ≡ laidOut (take (rowOf m .imageBytes) x)
+      → tookImage m come records x ≡ startedBy (firstOf (startRefusals y)) m records y
+  unfolding tookImage wholeImage
+  image-whole come y h e = rw e (pick-false _ _ (le-ltb _ _ h))
 
 module _ (m : Carried) (next records : ℕ) (bytes : List ℕ) where
   pub record-none : records ≤ next → tookRecord m next records bytes ≡ refused Malformed m
@@ -83,12 +85,12 @@ module _ (m : Carried) (next records : ℕ) (bytes : List ℕ) where
 
     pub record-wrong : recordLength ≤ length bytes → isRecord firstEdition bytes ≡ false → tookRecord m next records bytes ≡ refused Malformed m
     unfolding tookRecord
-    record-wrong h e = pick-true _ _ (lt-ltb _ _ due) ∙ pick-false _ _ (le-ltb _ _ h) ∙ pick-false _ _ e
+    record-wrong h e = pick-true _ _ (lt-ltb _ _ due) ∙ pick-false _ _ (le-ltb _ _ h) ∙ pick-false _ _ (records-alike (m .edition) bytes ∙ e)
 
     pub record-right : recordLength ≤ length bytes → isRecord firstEdition bytes ≡ true
         → tookRecord m next records bytes ≡ played m next records (step early listRoom (m .state) (eventOf bytes))
     unfolding tookRecord
-    record-right h e = pick-true _ _ (lt-ltb _ _ due) ∙ pick-false _ _ (le-ltb _ _ h) ∙ pick-true _ _ e
+    record-right h e = pick-true _ _ (lt-ltb _ _ due) ∙ pick-false _ _ (le-ltb _ _ h) ∙ pick-true _ _ (records-alike (m .edition) bytes ∙ e)
 
 module _ (m : Carried) (next records : ℕ) where
   pub end-whole : both (leb records next) (eqb (length (m .held)) 0) ≡ true → endedIn (InRecords next records) m ≡ silent (entering Over (m .state) m)

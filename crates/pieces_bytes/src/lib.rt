@@ -10,7 +10,6 @@ ghost use Rattle.model.specs.Stream.{begun, refused, tookHeader, startedBy, too
 ghost use Rattle.model.specs.declared.stream.Phase.the-variants.{InImage, InRecords};
 ghost use Rattle.pieces_bytes.specs.Carrying.{heldRoom, heldCount, heldIn, carriedBy, padded, kept, IsTidy, HoldsOneMore, Leaves, LeavesOfAny};
 ghost use Rattle.night_text.specs.Buffer.{longestLine};
-use map::IMAGE_LENGTH;
 use model::answer::Answer;
 use model::lane::Working;
 use model::stream::Phase;
@@ -161,7 +160,7 @@ fn put_image_byte(image: &mut [u8], i: usize, b: u8)
     }
 }
 
-// A whole image, by what start answers to it.
+// A whole image as it is laid out, by what start answers to it.
 fn start(image: &mut [u8], c: Carried, records: u32, out: &mut [u8], at: usize) -> Taken
     requires { ⌜ (length (now image) ≡ imageLength) × (at + longestLine ≤ length (now out)) ⌝ }
     ensures { λ r. ⌜ Leaves (startedBy (firstOf (startRefusals (now (image .entry)))) (carriedBy c (now (image .entry))) records (now (image .entry))) at (now (out .entry)) (now (out .exit)) (now (image .exit)) r ⌝ }
@@ -209,10 +208,12 @@ fn take_image(
     ensures { λ r. ⌜ Leaves (tookImage (carriedBy c (now (image .entry))) come records (set (now (image .entry)) come b)) at (now (out .entry)) (now (out .exit)) (now (image .exit)) r ⌝ }
 {
     put_image_byte(image, come as usize, b);
-    if (come as usize) + 1 < IMAGE_LENGTH {
+    let length = night_file::image_bytes(c.edition);
+    if (come as usize) + 1 < length {
         let carried = more_image(c, come, records);
         return Taken { at, carried };
     }
+    night_file::clear_rest(image, length);
     start(image, c, records, out, at)
 }
 

@@ -4,8 +4,7 @@ use Prim.Native.Nat.{_+_, _-_, _≤_}
 use native.Mathlib.Omega.{arith}
 use borrow.Author.Needs.{needs}
 use Rattle.model.specs.Map.{flagBytes, flagMasks}
-use Rattle.model.specs.Flags.{interrupts}
-use Rattle.flags_interrupt.proofs.Search.{Gathered, gathered-begin, gathered-turn}
+use Rattle.flags_interrupt.proofs.Search.{Gathered, gathered-begin, gathered-turn, gathered-end}
 use Rattle.flags_interrupt.proofs.is_due.Statement.{statement}
 use Rattle.flags_interrupt.proofs.is_due.Tie as tie
 
@@ -26,7 +25,6 @@ loop-again c =
     )
 
 pub is-due-spec : {M : Type 1} → statement M
-unfolding interrupts
 is-due-spec =
     tie.close
     (tie.spec
@@ -40,4 +38,4 @@ is-due-spec =
     (λ c. search needs)
     (λ c. search needs)
     loop-again
-    (λ c. let e : c .before .loop .k ≡ 20 = omega arith in rw e at (c .before .loop .inv .1)))
+    (λ c. let e : c .before .loop .k ≡ 20 = omega arith in gathered-end _ (c .before .loop .due) (rw e at (c .before .loop .inv .1))))

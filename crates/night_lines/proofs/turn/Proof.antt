@@ -13,7 +13,9 @@ use Rattle.contracts.specs.Contracts.{IsOutcome}
 use Rattle.model.specs.File.{eventOf}
 use Rattle.contracts.specs.declared.Returned.{Returned}
 use Rattle.model.specs.declared.event.Event.{Event}
-use Rattle.night_lines.specs.Lines.{shownBy}
+use lib.Dec.{eqb}
+use Rattle.bits.specs.Choice.{pick}
+use Rattle.night_lines.specs.Lines.{readCount, shownBy}
 use Rattle.night_lines.proofs.ReadBytes.{shown-most, shown-line, shown-fits}
 use borrow.Author.Needs.{needs}
 use Rattle.model.specs.Access.{readLimit}
@@ -26,15 +28,20 @@ stepped : (s : State) (d e : Event) (buffer : List ℕ) {image left : List ℕ} 
     → IsOutcome (stepOutcome (step early listRoom s e) buffer) r image left
 stepped s d e buffer p q l = rw (p, q) at l
 
+-- how many bytes are shown, with the event of the record
+shown-by : (answer : ℕ) {count asked : ℕ} (d e : Event) → count ≡ pick (eqb answer 0) asked 0 → asked ≡ readCount (d .call) → d ≡ e → count ≡ shownBy answer (e .call)
+unfolding shownBy
+shown-by answer d e p q r = p ∙ rw (q, r)
+
 put-line-requires : tie.Need-put-line-requires
 unfolding stepOutcome
 put-line-requires c κs =
-    let a = c .before .before .before .before .before .before .before .before .before .before .before .before .before .before .before .before .before .args in
+    let a = c .before .before .before .before .before .before .before .before .before .before .before .before .before .before .before .before .before .before .args in
     let s = stateWith (a .image .now) (a .reached .working) in
     let e = eventOf (a .bytes .now) in
-    let l = stepped s _ e (a .buffer .now) (c .before .before .before .before .before .before .before .before .before .before .before .before .event-of .ensures) (omega arith) (c .before .before .before .before .before .before .before .before .before .step .ensures) in
+    let l = stepped s _ e (a .buffer .now) (c .before .before .before .before .before .before .before .before .before .before .before .before .before .event-of .ensures) (omega arith) (c .before .before .before .before .before .before .before .before .before .step .ensures) in
     let n = c .before .before .before .number .ensures ∙ ap number (l .answer) in
-    let m = c .before .before .shown .ensures ∙ ap (λ x. shownBy (c .before .before .before .number .result) (x .call)) (c .before .before .before .before .before .before .before .before .before .before .before .before .event-of .ensures) in (
+    let m = shown-by (c .before .before .before .number .result) _ e (c .before .before .shown .ensures) (c .before .before .before .before .before .before .before .before .before .before .before .before .read-count .ensures) (c .before .before .before .before .before .before .before .before .before .before .before .before .before .event-of .ensures) in (
       omega (arith, shown-most s e _ _ _ _ (l .buffer) n m),
       shown-fits s e _ _ _ _ (l .buffer) n m (a .index) (a .reached .at) (length (a .out .now)) (omega arith),
     )
@@ -42,12 +49,12 @@ put-line-requires c κs =
 returns : tie.Need-returns
 unfolding stepOutcome
 returns c =
-    let a = c .before .before .before .before .before .before .before .before .before .before .before .before .before .before .before .before .before .before .before .before .args in
+    let a = c .before .before .before .before .before .before .before .before .before .before .before .before .before .before .before .before .before .before .before .before .before .args in
     let s = stateWith (a .image .now) (a .reached .working) in
     let e = eventOf (a .bytes .now) in
-    let l = stepped s _ e (a .buffer .now) (c .before .before .before .before .before .before .before .before .before .before .before .before .before .before .before .event-of .ensures) (omega arith) (c .before .before .before .before .before .before .before .before .before .before .before .before .step .ensures) in
+    let l = stepped s _ e (a .buffer .now) (c .before .before .before .before .before .before .before .before .before .before .before .before .before .before .before .before .event-of .ensures) (omega arith) (c .before .before .before .before .before .before .before .before .before .before .before .before .step .ensures) in
     let n = c .before .before .before .before .before .before .number .ensures ∙ ap number (l .answer) in
-    let m = c .before .before .before .before .before .shown .ensures ∙ ap (λ x. shownBy (c .before .before .before .before .before .before .number .result) (x .call)) (c .before .before .before .before .before .before .before .before .before .before .before .before .before .before .before .event-of .ensures) in
+    let m = shown-by (c .before .before .before .before .before .before .number .result) _ e (c .before .before .before .before .before .shown .ensures) (c .before .before .before .before .before .before .before .before .before .before .before .before .before .before .before .read-count .ensures) (c .before .before .before .before .before .before .before .before .before .before .before .before .before .before .before .before .event-of .ensures) in
     record {
       registers = l .image;
       lanes = l .working;
@@ -59,6 +66,7 @@ pub turn-spec : {M : Type 1} → statement M
 turn-spec =
     tie.close
     (tie.spec
+    (λ c κs. search needs)
     (λ c κs. search needs)
     (λ c κs. search needs)
     (λ c κs. search needs)

@@ -17,13 +17,13 @@ use Rattle.night_replay.proofs.play.Statement.{statement}
 use Rattle.night_replay.proofs.play.Tie as tie
 
 abbrev Inv-loop : tie.InvT-loop
-Inv-loop image₀ buffer₀ file count out₀ reached₀ k₀ image buffer out reached k =
+Inv-loop image₀ buffer₀ file offset count out₀ reached₀ k₀ image buffer out reached k =
     (k ≤ count) × (length image ≡ imageLength) × (length buffer ≡ readLimit) × (length out ≡ length out₀) × (reached .at ≤ lineRoom 4 * k)
     × (stateWith image (reached .working) ≡ stateAfter (stateWith image₀ idleWorking) file k)
     × Puts 0 (textAfter (stateWith image₀ idleWorking) file k) out₀ out (reached .at)
 
 abbrev μ-loop : tie.MeasureT-loop
-μ-loop image₀ buffer₀ file count out₀ reached₀ k₀ image buffer out reached k = count - k
+μ-loop image₀ buffer₀ file offset count out₀ reached₀ k₀ image buffer out reached k = count - k
 
 loop-holds : tie.Need-loop-holds Inv-loop μ-loop
 loop-holds c =
@@ -48,9 +48,9 @@ loop-again c =
     let l = c .before .before .before .before .before .before .before .before .before .before .before .before .loop in
     let i = l .inv in
     let t = c .before .before .before .before .before .before .turn in
-    let part = part-record (a .file .now) (l .k) in
-    let few = c .before .before .before .before .before .before .before .before .before .before .before .before .before .before .before .before .before .before .pre .3 in
-    let wide = c .before .before .before .before .before .before .before .before .before .before .before .before .before .before .before .before .before .before .pre .4 in
+    let part = part-record (a .file .now) (a .offset) (l .k) (c .before .before .before .before .before .before .before .before .before .before .before .before .before .before .before .before .before .before .pre .2) in
+    let few = c .before .before .before .before .before .before .before .before .before .before .before .before .before .before .before .before .before .before .pre .4 in
+    let wide = c .before .before .before .before .before .before .before .before .before .before .before .before .before .before .before .before .before .before .pre .5 in
     let room = turn-room s (a .file .now) _ _ _ _ _ _ _ _ _ _ _ (i .5) part (t .ensures) (omega arith) in (
       search needs,
       t .kept .0 ∙ i .1,
