@@ -345,10 +345,13 @@ fn commission_mask_only_when_immediate_closes_on_a_live_path() {
 #[test]
 fn refusals_in_their_order() {
     let mut lanes = [LaneRecord::IDLE; LANES];
-    let mut short = [0u8; 767];
     let read = Event::Read { address: 0, count: 0 };
-    assert_eq!(start(&mut short, &mut lanes), 1);
-    assert_eq!(desk(&mut short, &mut lanes, &read, &mut []).answer, 1);
+    for length in [0, 1, 767, 768, 769, 784, 895, 897, 1024] {
+        let mut image = vec![0u8; length];
+        assert_eq!(start(&mut image, &mut lanes), 1, "{} bytes", length);
+        assert_eq!(desk(&mut image, &mut lanes, &read, &mut []).answer, 1);
+        assert_eq!(desk_list(&mut image, &mut lanes, &[], &mut []), 1);
+    }
     let mut image = [0u8; IMAGE_LEN];
     image[2] = 0x80;
     assert_eq!(start(&mut image, &mut lanes), 2);
@@ -382,7 +385,7 @@ fn limits_back_to_front_are_refused_at_start_alone() {
     // Asked after 1 and 2, and of no other call.
     let mut lanes = [LaneRecord::IDLE; LANES];
     let mut image = with_limits(usual_image(), 65535, 65535, 0, 0);
-    assert_eq!(start(&mut image[..767], &mut lanes), 1);
+    assert_eq!(start(&mut image[..768], &mut lanes), 1);
     image[2] = 0x80;
     assert_eq!(start(&mut image, &mut lanes), 2);
     let mut bench = Bench::new();
@@ -524,6 +527,376 @@ fn the_index_counts_past_every_digit() {
     assert!(night::replay(&file) == expected.as_bytes());
 }
 
+// ---- command messages ----
+
+/// The example's module, firmware 7.254, with page 9Fh selected.
+fn commanded() -> Bench {
+    let mut image = [0u8; IMAGE_LEN];
+    image[88..90].copy_from_slice(&[0x44, 0x11]);
+    image[39..41].copy_from_slice(&[0x07, 0xFE]);
+    let mut bench = Bench::of(image);
+    bench.write(127, &[0x9F]);
+    bench
+}
+
+impl Bench {
+    /// Reads that are done.
+    fn shown(&mut self, address: u8, count: u8) -> Vec<u8> {
+        self.read(address, count).unwrap_or_else(|number| panic!("answer {}", number))
+    }
+
+    /// Fills the body, from 136 to 255.
+    fn fill_body(&mut self, byte: u8) {
+        for address in (136..=248).step_by(8) {
+            self.write(address, &[byte; 8]);
+        }
+    }
+
+    /// A command in one access of its header: lower 37 after it.
+    fn command(&mut self, number: u16, length: u8, code: u8) -> u8 {
+        let [high, low] = number.to_be_bytes();
+        assert_eq!(self.write(128, &[high, low, 0, 0, length, code, 0xAA, 0xBB]), 0);
+        assert_eq!(self.shown(128, 6), [high, low, 0, 0, length, code], "128-133 stay");
+        self.image[COMMAND_STATUS]
+    }
+}
+
+/// Bytes from a beginning on, then zeros.
+fn then_zeros(beginning: &[u8], length: usize) -> Vec<u8> {
+    let mut bytes = beginning.to_vec();
+    bytes.resize(length, 0);
+    bytes
+}
+
+#[test]
+fn a_command_without_a_body_in_one_access() {
+    let mut bench = commanded();
+    bench.write(128, &[0x00, 0x40, 0x00, 0x00, 0x00, 0xBF, 0x00, 0x00]);
+    assert_eq!(bench.shown(37, 1), [0x01]);
+    assert_eq!(bench.shown(3, 1), [0x06]);
+    assert_eq!(bench.shown(8, 1), [0x40]);
+    assert_eq!(bench.shown(3, 1), [0x07]);
+    assert_eq!(bench.shown(8, 1), [0x00]);
+    assert_eq!(bench.shown(37, 1), [0x01], "it stays till the next command");
+    let reply = [&[0x24, 0xFB][..], &then_zeros(&[0, 0, 1], 10), &then_zeros(&[3], 26)].concat();
+    assert_eq!(bench.shown(134, 38), reply);
+
+    // With the wrong code, over the reply of the other.
+    bench.write(136, &[0x55; 8]);
+    bench.write(128, &[0x00, 0x40, 0x00, 0x00, 0x00, 0xBE, 0x00, 0x00]);
+    assert_eq!(bench.shown(37, 1), [0x45]);
+    assert_eq!(bench.shown(134, 11), [0, 0, 0x55, 0x55, 0x55, 0x55, 0x55, 0x55, 0x55, 0x55, 0]);
+    assert_eq!(bench.shown(146, 2), [3, 0]);
+    assert_eq!(bench.shown(8, 1), [0x40]);
+}
+
+#[test]
+fn each_command_has_its_reply() {
+    let mut bench = commanded();
+    bench.fill_body(0x09);
+    bench.write(136, &[0x01, 0xF4, 0x77]);
+    assert_eq!(bench.command(0x0000, 2, 0x08), 0x01);
+    assert_eq!(bench.shown(134, 6), [0x02, 0xFD, 0x02, 0x00, 0x77, 0x09]);
+
+    let mut bench = commanded();
+    bench.fill_body(0x09);
+    assert_eq!(bench.command(0x0041, 0, 0xBE), 0x01);
+    assert_eq!(bench.shown(134, 20), then_zeros(&[0x12, 0xFF], 20));
+    assert_eq!(bench.shown(154, 102), [0x09; 102]);
+    assert_eq!(bench.command(0x0040, 0, 0xBF), 0x01);
+    assert_eq!(bench.shown(134, 3), [0x24, 0xFB, 0]);
+    assert_eq!(bench.shown(147, 25), [0; 25]);
+    assert_eq!(bench.shown(172, 84), [0x09; 84]);
+
+    let mut bench = commanded();
+    bench.fill_body(0x09);
+    assert_eq!(bench.command(0x0100, 0, 0xFE), 0x01);
+    let reply = [&[0x6E, 0xF6][..], &then_zeros(&[0, 4], 74), &then_zeros(&[7, 0xFE], 36)].concat();
+    assert_eq!(bench.shown(134, 112), reply);
+    assert_eq!(bench.shown(246, 10), [0x09; 10]);
+    assert_eq!(bench.shown(39, 2), [0x07, 0xFE]);
+}
+
+#[test]
+fn the_code_is_asked_before_the_number() {
+    let mut bench = commanded();
+    bench.fill_body(0x66);
+    for (number, code, status) in [
+        (0x0101, 0xFD, 0x41), (0x0101, 0xFC, 0x45), (0x0042, 0xBD, 0x41), (0x0043, 0xBC, 0x41),
+        (0x4000, 0xBF, 0x41), (0x0001, 0xFE, 0x41), (0x0140, 0xBE, 0x41), (0xFFFF, 0x01, 0x41),
+    ] {
+        assert_eq!(bench.command(number, 0, code), status, "{:04x}h", number);
+        assert_eq!(bench.shown(134, 122), [&[0, 0][..], &[0x66; 120]].concat());
+        assert_eq!(bench.shown(8, 1), [0x40]);
+    }
+}
+
+#[test]
+fn a_fresh_page_has_the_wrong_code() {
+    let mut bench = commanded();
+    bench.write(129, &[0x00]);
+    assert_eq!(bench.shown(37, 1), [0x45]);
+    let mut bench = commanded();
+    bench.write(133, &[0xFF]);
+    assert_eq!(bench.shown(37, 1), [0x00]);
+    bench.write(129, &[0x00]);
+    assert_eq!(bench.shown(37, 1), [0x01]);
+    // The same byte again runs it again, now over its own reply.
+    bench.shown(8, 1);
+    bench.write(134, &[0x11, 0x22, 0x33]);
+    bench.write(129, &[0x00]);
+    assert_eq!(bench.shown(8, 1), [0x40]);
+    assert_eq!(bench.shown(134, 4), [0x02, 0xFD, 0x02, 0x00]);
+}
+
+#[test]
+fn lengths_count_in_the_code_alone() {
+    assert_eq!(commanded().command(0x0040, 120, 0x47), 0x01);
+    assert_eq!(commanded().command(0x0040, 121, 0x46), 0x45);
+    assert_eq!(commanded().command(0x0040, 255, 0xC0), 0x45);
+    assert_eq!(commanded().command(0x0000, 0, 0xFF), 0x01);
+    assert_eq!(commanded().command(0x0000, 1, 0xFE), 0x01);
+    // The last byte of the longest body counts, the one behind a body not.
+    let mut bench = commanded();
+    bench.write(255, &[0x01]);
+    assert_eq!(bench.command(0x0041, 119, 0x47), 0x01);
+    assert_eq!(bench.command(0x0041, 120, 0x46), 0x45);
+    assert_eq!(bench.command(0x0041, 120, 0x45), 0x01);
+    // EPLLength counts too, and nothing else of it.
+    let mut bench = commanded();
+    bench.write(128, &[0x00, 0x40, 0x12, 0x34, 0x00, 0x79]);
+    assert_eq!(bench.shown(37, 1), [0x01]);
+    bench.write(128, &[0x00, 0x40, 0x12, 0x34, 0x00, 0xBF]);
+    assert_eq!(bench.shown(37, 1), [0x45]);
+}
+
+#[test]
+fn a_command_runs_when_129_is_written() {
+    let mut bench = commanded();
+    bench.write(132, &[0x00, 0xBF]);
+    bench.write(128, &[0x00, 0x40]);
+    assert_eq!(bench.shown(37, 1), [0x01]);
+    // Its own access may hold what it needs behind 129.
+    let mut bench = commanded();
+    bench.write(129, &[0x40, 0x00, 0x00, 0x00, 0xBF]);
+    assert_eq!(bench.shown(37, 1), [0x01]);
+    // Without 129 nothing runs, nor in an access that is refused.
+    let mut bench = commanded();
+    bench.write(128, &[0x00]);
+    bench.write(130, &[0x00, 0x00, 0x00, 0xBF, 0x00, 0x00]);
+    let data = [0x00, 0x40, 0x00, 0x00, 0x00, 0xBF, 0x00, 0x00];
+    assert_eq!(bench.event(Event::Write { address: 128, count: 9, data }).answer, 4);
+    assert_eq!(bench.event(Event::Write { address: 129, count: 0, data }).answer, 4);
+    bench.write(127, &[0x10]);
+    bench.write(129, &[0x40]);
+    bench.write(127, &[0x00]);
+    bench.write(129, &[0x40]);
+    assert_eq!((bench.shown(37, 1), bench.shown(8, 1)), (vec![0], vec![0]));
+    bench.write(127, &[0x9F]);
+    assert_eq!(bench.shown(128, 8), [0, 0, 0, 0, 0, 0xBF, 0, 0]);
+    bench.write(129, &[0x40]);
+    assert_eq!(bench.shown(37, 1), [0x01]);
+}
+
+#[test]
+fn bit_6_of_31_masks_the_completion() {
+    for (masks, lower_3) in [(0x40, 0x07), (0xBF, 0x06), (0x00, 0x06), (0xFF, 0x07)] {
+        for code in [0xBF, 0xBE] {
+            let mut bench = commanded();
+            bench.write(31, &[masks]);
+            bench.command(0x0040, 0, code);
+            assert_eq!(bench.shown(3, 1), [lower_3]);
+            bench.write(31, &[!masks]);
+            assert_eq!(bench.shown(3, 1), [lower_3 ^ 1]);
+            assert_eq!((bench.shown(8, 1), bench.shown(3, 1)), (vec![0x40], vec![0x07]));
+        }
+    }
+    // No other bit of lower 8 and 9 has a say, in a lent image either.
+    let mut bench = commanded();
+    bench.image[8..10].copy_from_slice(&[0xBF, 0xFF]);
+    bench.write(31, &[0x00]);
+    assert_eq!(bench.shown(3, 1), [0x07]);
+    bench.command(0x0040, 0, 0xBF);
+    assert_eq!((bench.image[3], bench.shown(8, 2)), (0x06, vec![0xFF, 0xFF]));
+    assert_eq!((bench.image[3], bench.shown(8, 2)), (0x07, vec![0, 0]));
+    // Lower 8 and 37 take no write.
+    bench.command(0x0040, 0, 0xBF);
+    bench.write(8, &[0]);
+    bench.write(37, &[0x77]);
+    assert_eq!((bench.shown(37, 1), bench.shown(8, 1)), (vec![0x01], vec![0x40]));
+}
+
+#[test]
+fn page_9f_is_there_in_bank_0_alone() {
+    let mut bench = commanded();
+    bench.write(126, &[0x01, 0x9F]);
+    assert_eq!(bench.shown(126, 2), [0, 0]);
+    bench.write(126, &[0x00, 0x9F]);
+    assert_eq!(bench.shown(126, 2), [0, 0x9F]);
+    bench.write(133, &[0xFF]);
+    bench.write(126, &[0x01]);
+    assert_eq!(bench.shown(126, 2), [1, 0x9F]);
+    bench.write(129, &[0x00]);
+    bench.write(200, &[0x55]);
+    assert_eq!((bench.shown(37, 1), bench.shown(133, 1)), (vec![0], vec![0]));
+    bench.write(126, &[0x00]);
+    assert_eq!((bench.shown(133, 1), bench.shown(200, 1)), (vec![0xFF], vec![0]));
+    bench.write(129, &[0x00]);
+    assert_eq!(bench.shown(37, 1), [0x01]);
+}
+
+#[test]
+fn every_byte_of_page_9f_is_kept_till_start() {
+    let mut image = [0u8; IMAGE_LEN];
+    image[768..].fill(0x5A);
+    let mut bench = Bench::of(image);
+    bench.write(127, &[0x9F]);
+    assert_eq!(bench.shown(128, 128), [0; 128]);
+    for address in 128..=255u8 {
+        assert_eq!(bench.write(address, &[address]), 0);
+    }
+    // 129 ran a command before 130 to 255 were written.
+    let kept: Vec<u8> = (128..=255).collect();
+    assert_eq!(bench.shown(128, 128), kept);
+    assert_eq!(bench.shown(128, 128), kept, "a read clears nothing");
+    assert_eq!(bench.image[768..], kept[..]);
+    assert_eq!(start(&mut bench.image, &mut bench.lanes), 0);
+    assert_eq!(bench.image[768..], [0; 128]);
+}
+
+/// A command as the Linux driver sends it and waits for it: 130-135 and the
+/// body in accesses of at most eight bytes, 128-129 alone in the last, one poll
+/// of lower 8, then lower 37, the reply's header and the reply.
+fn driven(bench: &mut Bench, number: u16, body: &[u8]) -> (u8, Vec<u8>) {
+    let [high, low] = number.to_be_bytes();
+    let summed: u32 = body.iter().map(|&byte| byte as u32).sum();
+    let sum = high as u32 + low as u32 + body.len() as u32 + summed;
+    let code = 255 - (sum % 256) as u8;
+    let message = [&[0, 0, body.len() as u8, code, 0, 0][..], body].concat();
+    for (index, access) in message.chunks(8).enumerate() {
+        assert_eq!(bench.write(130 + 8 * index as u8, access), 0);
+        assert_eq!(bench.image[MODULE_FLAGS], 0, "nothing has run yet");
+    }
+    assert_eq!(bench.write(128, &[high, low]), 0);
+    assert_eq!(bench.shown(8, 1)[0] & 0x40, 0x40, "the first poll finds it done");
+    let status = bench.shown(37, 1)[0];
+    let header = bench.shown(134, 2);
+    if header[0] == 0 {
+        assert_eq!(header[1], 0);
+        return (status, Vec::new());
+    }
+    let reply = bench.shown(136, header[0]);
+    let summed: u32 = reply.iter().map(|&byte| byte as u32).sum();
+    assert_eq!(header[1] as u32, 255 - summed % 256);
+    (status, reply)
+}
+
+#[test]
+fn the_linux_driver_is_served() {
+    let mut bench = commanded();
+    assert_eq!(driven(&mut bench, 0x0000, &[0, 0]), (0x01, vec![2, 0]));
+    let features = [then_zeros(&[0, 0, 1], 10), then_zeros(&[3], 26)].concat();
+    assert_eq!(driven(&mut bench, 0x0040, &[]), (0x01, features));
+    assert_eq!(driven(&mut bench, 0x0041, &[]), (0x01, vec![0; 18]));
+    let versions = [then_zeros(&[0, 4], 74), then_zeros(&[7, 0xFE], 36)].concat();
+    assert_eq!(driven(&mut bench, 0x0100, &[]), (0x01, versions));
+    // What the driver would go on with: start of a download, of a full body.
+    assert_eq!(driven(&mut bench, 0x0101, &[0xA5; 120]), (0x41, Vec::new()));
+    assert_eq!(bench.shown(136, 120), [0xA5; 120]);
+}
+
+// ---- the editions of the night file ----
+
+/// The example in edition 2, its page 9Fh filled with what start wipes.
+fn in_edition_2(file: &[u8]) -> Vec<u8> {
+    let mut made = [&file[..784], &[0xC3; 128], &file[784..]].concat();
+    made[2] = 2;
+    made[12..16].copy_from_slice(&912u32.to_be_bytes());
+    made
+}
+
+#[test]
+fn both_editions_print_the_same() {
+    let file = in_edition_2(&example());
+    assert_eq!(file.len(), example().len() + 128);
+    assert_eq!(night::replay(&file), night::replay(&example()));
+    assert_eq!(streamed(&file).as_bytes(), night::replay(&example()));
+    // An edition 1 night can select page 9Fh, and finds zeros there.
+    for file in [example(), in_edition_2(&example())] {
+        let records = night_records(&file);
+        let mut made = file[..records].to_vec();
+        made[4..8].copy_from_slice(&3u32.to_be_bytes());
+        for record in [[1, 127, 1, 0x9F], [1, 133, 1, 0xFF], [2, 128, 8, 0]] {
+            made.extend_from_slice(&record);
+            made.extend_from_slice(&[0; 8]);
+        }
+        let text = "0 0\n1 0\n2 0 00 00 00 00 00 ff 00 00\n";
+        assert_eq!(String::from_utf8_lossy(&night::replay(&made)), text);
+        assert_eq!(streamed(&made), text);
+    }
+}
+
+fn night_records(file: &[u8]) -> usize {
+    u32::from_be_bytes([file[12], file[13], file[14], file[15]]) as usize
+}
+
+#[test]
+fn an_edition_has_its_own_offset_and_length() {
+    let (first, second) = (example(), in_edition_2(&example()));
+    let offset = |file: &[u8], offset: u32| {
+        let mut file = file.to_vec();
+        file[12..16].copy_from_slice(&offset.to_be_bytes());
+        file
+    };
+    let mut wrong = vec![
+        // Each under the other's offset, or number, or with the other's length.
+        offset(&second, 784), offset(&first, 912),
+        with_byte(first.clone(), 2, 2), with_byte(second.clone(), 2, 1),
+        offset(&with_byte(first.clone(), 2, 2), 912),
+        offset(&with_byte(second.clone(), 2, 1), 784),
+        second[..911].to_vec(), second[..912].to_vec(), second[..second.len() - 1].to_vec(),
+        [&second[..], &[0]].concat(),
+    ];
+    // No other edition is read, whatever its offset.
+    for number in [0, 3, 4, 255] {
+        wrong.push(with_byte(first.clone(), 2, number));
+        wrong.push(with_byte(second.clone(), 2, number));
+        wrong.push(offset(&with_byte(second.clone(), 2, number), 1040));
+    }
+    for file in wrong {
+        assert_eq!(night::replay(&file), b"bad 9\n");
+        let flat = with_byte(file, 16 + 2, 0x80);
+        assert_eq!(night::replay(&flat), b"bad 9\n");
+    }
+    let flat = with_byte(second.clone(), 16 + 2, 0x80);
+    assert_eq!(night::replay(&flat), b"bad 2\n");
+    assert_eq!(night::replay(&with_byte(second.clone(), 16 + P02 + 195, 1)), b"bad 10\n");
+    assert_eq!(night::replay(&with_byte(flat, 912, 7)), b"bad 9\n");
+    assert_eq!(streamed(&with_byte(second[..912].to_vec(), 16 + 2, 0x80)), "bad 2\n");
+    assert_eq!(streamed(&with_byte(second[..911].to_vec(), 16 + 2, 0x80)), "bad 9\n");
+    assert_eq!(streamed(&second[..912 + 12]), "0 0\nbad 9\n");
+}
+
+#[test]
+fn the_longest_file_of_an_edition() {
+    for (file, longest) in [(example(), 60_784), (in_edition_2(&example()), 60_912)] {
+        let mut file = file[..night_records(&file)].to_vec();
+        file[4..8].copy_from_slice(&5000u32.to_be_bytes());
+        file.resize(file.len() + 5000 * 12, 0);
+        for record in file[longest - 60_000..].chunks_mut(12) {
+            record[..2].copy_from_slice(&[3, 9]);
+        }
+        assert_eq!(file.len(), longest);
+        assert_eq!(night::replay(&file).iter().filter(|&&byte| byte == b'\n').count(), 5000);
+        file.extend_from_slice(&[3, 9, 0, 0, 0, 0, 0, 0, 0, 0, 0, 0]);
+        assert_eq!(night::replay(&file), b"bad 9\n");
+        file[4..8].copy_from_slice(&5001u32.to_be_bytes());
+        assert_eq!(night::replay(&file), b"bad 9\n");
+        assert_eq!(streamed(&file).lines().count(), 5001);
+    }
+    assert_eq!(night::MAX_FILE, 60_912);
+}
+
 // ---- the night in pieces ----
 
 /// What the streaming form prints for each piece, and at last for the end.
@@ -544,7 +917,7 @@ fn texts(pieces: &[&[u8]]) -> Vec<String> {
 /// All that the streaming form prints for a file, the same however it is cut.
 fn streamed(file: &[u8]) -> String {
     let text = texts(&[file]).concat();
-    for size in [1, 5, 11, 12, 13, 16, 783, 784, 785, 4096] {
+    for size in [1, 5, 11, 12, 13, 16, 783, 784, 785, 911, 912, 913, 4096] {
         let pieces: Vec<&[u8]> = file.chunks(size).collect();
         assert_eq!(texts(&pieces).concat(), text, "in pieces of {}", size);
     }
@@ -641,5 +1014,5 @@ fn the_streaming_form_has_no_limit_of_5000() {
     file.truncate(784 + 12 * 5001);
     assert_eq!(streamed(&file).lines().count(), 5001);
     assert_eq!(night::replay(&file), b"bad 9\n");
-    assert!(std::mem::size_of::<Stream>() < 1024, "the carried state is small");
+    assert!(std::mem::size_of::<Stream>() < IMAGE_LEN + 256, "the carried state is small");
 }

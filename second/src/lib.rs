@@ -6,6 +6,7 @@
 //! * `registers`: addresses and codes.
 //! * `lanes`: the lane records, and sets of lanes.
 //! * `applications`: the list of descriptors.
+//! * `commands`: command messages on page 9Fh.
 //! * `soundness`: the five conditions (a) to (e) as a test.
 //! * `module`: `start` and the six events, one by one (`desk`) or as a list
 //!   (`desk_list`); `Module::step` is the same without the question of
@@ -17,6 +18,7 @@
 #![forbid(unsafe_code)]
 
 pub mod applications;
+pub mod commands;
 pub mod lanes;
 pub mod module;
 pub mod night;

@@ -1,6 +1,7 @@
 //! The register core: start and the six events.
 
 use crate::applications::*;
+use crate::commands;
 use crate::lanes::*;
 use crate::registers::*;
 use crate::soundness;
@@ -305,7 +306,8 @@ impl<'a> Module<'a> {
     fn settle_interrupt(&mut self) {
         let showing = (self.word(LANE_FLAGS) & !self.word(LANE_MASKS))
             | (self.word(LANE_FLAGS + 8) & !self.word(LANE_MASKS + 8))
-            | (self.half_word(LANE_FLAGS + 16) & !self.half_word(LANE_MASKS + 16)) as u64;
+            | (self.half_word(LANE_FLAGS + 16) & !self.half_word(LANE_MASKS + 16)) as u64
+            | (self.image[MODULE_FLAGS] & !self.image[MODULE_MASKS] & COMMAND_COMPLETE) as u64;
         self.image[MODULE_STATE] =
             (self.image[MODULE_STATE] & !INTERRUPT_DEASSERTED) | (showing == 0) as u8;
     }
@@ -320,6 +322,7 @@ impl<'a> Module<'a> {
             0x02 => P02,
             0x10 if self.image[BANK_SELECT] == 0 => P10,
             0x11 if self.image[BANK_SELECT] == 0 => P11,
+            0x9F if self.image[BANK_SELECT] == 0 => P9F,
             _ => P00,
         }
     }
@@ -334,16 +337,38 @@ impl<'a> Module<'a> {
             self.select_page(data as u8);
         } else if address < 128 {
             self.write_lower(address, count, data);
-        } else if self.upper_page() == P10 {
-            let offset = (address & 127) as usize;
-            let end = offset + count as usize;
-            if offset <= APPLY_IMMEDIATE - P10 - 128 && end > APPLY_DP_INIT - P10 - 128 {
-                self.write_with_triggers(address, count, data);
-            } else {
-                self.store_on_10h(offset, data, count);
+        } else {
+            match self.upper_page() {
+                P10 => self.write_on_10h(address, count, data),
+                P9F => self.write_on_9fh(address, count, data),
+                _ => {}
             }
         }
         Outcome::DONE
+    }
+
+    #[inline(always)]
+    fn write_on_10h(&mut self, address: u8, count: u8, data: u64) {
+        let offset = (address & 127) as usize;
+        let end = offset + count as usize;
+        if offset <= APPLY_IMMEDIATE - P10 - 128 && end > APPLY_DP_INIT - P10 - 128 {
+            self.write_with_triggers(address, count, data);
+        } else {
+            self.store_on_10h(offset, data, count);
+        }
+    }
+
+    /// Every byte of page 9Fh takes a write. When all are stored, a command
+    /// runs if the second byte of its number was among them.
+    #[inline(never)]
+    fn write_on_9fh(&mut self, address: u8, count: u8, data: u64) {
+        let bytes = data.to_le_bytes();
+        let from = P9F + address as usize;
+        let written = from..from + count as usize;
+        self.image[written.clone()].copy_from_slice(&bytes[..count as usize]);
+        if written.contains(&COMMAND_TRIGGER) {
+            commands::run(self.image);
+        }
     }
 
     /// Few lower bytes take a write; the page is selected in its turn.
@@ -388,7 +413,7 @@ impl<'a> Module<'a> {
     fn select_page(&mut self, page: u8) {
         let there = match page {
             0x00..=0x02 => true,
-            0x10 | 0x11 => self.image[BANK_SELECT] == 0,
+            0x10 | 0x11 | 0x9F => self.image[BANK_SELECT] == 0,
             _ => false,
         };
         if there {

@@ -8,13 +8,36 @@ use std::convert::TryFrom;
 
 pub const MAX_RECORDS: usize = 5000;
 pub const HEADER_LEN: usize = 16;
-pub const RECORDS_AT: usize = HEADER_LEN + IMAGE_LEN;
 pub const RECORD_LEN: usize = 12;
-/// The longest file: 60,784 bytes.
-pub const MAX_FILE: usize = RECORDS_AT + MAX_RECORDS * RECORD_LEN;
+/// The longest file of any edition: 60,912 bytes.
+pub const MAX_FILE: usize = HEADER_LEN + IMAGE_LEN + MAX_RECORDS * RECORD_LEN;
 
-/// Header, fixed parts: "WL", edition 1, 0.
-const MAGIC: [u8; 4] = [b'W', b'L', 1, 0];
+/// An edition of the night file.
+#[derive(Clone, Copy, PartialEq, Eq, Debug)]
+pub struct Edition {
+    pub number: u8,
+    /// How many bytes of the module's image the file holds, from its beginning
+    /// on; the rest of it is 0.
+    pub image_len: usize,
+}
+
+/// Every edition that is read.
+pub const EDITIONS: [Edition; 2] =
+    [Edition { number: 1, image_len: 768 }, Edition { number: 2, image_len: 896 }];
+
+impl Edition {
+    pub const fn records_at(self) -> usize {
+        HEADER_LEN + self.image_len
+    }
+}
+
+/// What a right header says.
+#[derive(Clone, Copy, PartialEq, Eq, Debug)]
+pub struct Header {
+    pub edition: Edition,
+    /// Of whatever size.
+    pub record_count: u32,
+}
 
 /// A line without read bytes: at most four digits, a space, the answer and
 /// the end of the line.
@@ -26,7 +49,7 @@ const WORD: usize = 8;
 
 /// A night file that has passed the whole check.
 pub struct Night<'a> {
-    image: &'a [u8; IMAGE_LEN],
+    image: [u8; IMAGE_LEN],
     records: &'a [u8],
 }
 
@@ -34,39 +57,42 @@ pub struct Night<'a> {
 /// 9 for a malformed file, what start answers (2 or 10) for a well-formed one
 /// whose image it refuses.
 pub fn check(file: &[u8]) -> Result<Night<'_>, u8> {
-    let malformed = Err(answer::MALFORMED);
-    if file.len() < RECORDS_AT || file.len() > MAX_FILE {
-        return malformed;
-    }
-    let (header, rest) = file.split_at(HEADER_LEN);
-    let (image, records) = rest.split_at(IMAGE_LEN);
-    let (header, image) = match (header.try_into(), <&[u8; IMAGE_LEN]>::try_from(image)) {
-        (Ok(header), Ok(image)) => (header, image),
-        _ => return malformed,
+    let (image, records) = match parts(file) {
+        Some((image, records)) if each_record(records).all(well_formed) => (image, records),
+        _ => return Err(answer::MALFORMED),
     };
-    match record_count(header).map(|count| count as usize) {
-        Some(count) if count <= MAX_RECORDS && records.len() == count * RECORD_LEN => {}
-        _ => return malformed,
-    }
-    if !each_record(records).all(well_formed) {
-        return malformed;
-    }
-    match start_refusal(image) {
+    match start_refusal(&image) {
         answer::DONE => Ok(Night { image, records }),
         refusal => Err(refusal),
     }
 }
 
-/// The record count that a right header names, whatever its size; none if the
-/// header is wrong.
-pub fn record_count(header: &[u8; HEADER_LEN]) -> Option<u32> {
+/// The image and the records of a file whose header and length are right.
+fn parts(file: &[u8]) -> Option<([u8; IMAGE_LEN], &[u8])> {
+    let header = read_header(file.get(..HEADER_LEN)?.try_into().ok()?)?;
+    let count = header.record_count as usize;
+    let in_file = file.get(HEADER_LEN..header.edition.records_at())?;
+    let records = &file[header.edition.records_at()..];
+    if count > MAX_RECORDS || records.len() != count * RECORD_LEN {
+        return None;
+    }
+    let mut image = [0; IMAGE_LEN];
+    image[..in_file.len()].copy_from_slice(in_file);
+    Some((image, records))
+}
+
+/// What a header says; none if it is wrong. Each edition has its own offset
+/// of the records.
+pub fn read_header(header: &[u8; HEADER_LEN]) -> Option<Header> {
     let number = |at: usize| {
         u32::from_be_bytes([header[at], header[at + 1], header[at + 2], header[at + 3]])
     };
-    let right = header[..4] == MAGIC
+    let edition = *EDITIONS.iter().find(|edition| edition.number == header[2])?;
+    let right = header[..2] == *b"WL"
+        && header[3] == 0
         && number(8) as usize == HEADER_LEN
-        && number(12) as usize == RECORDS_AT;
-    right.then(|| number(4))
+        && number(12) as usize == edition.records_at();
+    right.then(|| Header { edition, record_count: number(4) })
 }
 
 /// How many bytes a record of each kind uses; a write's data come on top.
@@ -131,8 +157,8 @@ pub fn event_of(record: &[u8; RECORD_LEN]) -> Event {
 }
 
 impl<'a> Night<'a> {
-    pub fn image(&self) -> &'a [u8; IMAGE_LEN] {
-        self.image
+    pub fn image(&self) -> &[u8; IMAGE_LEN] {
+        &self.image
     }
 
     pub fn len(&self) -> usize {
@@ -157,7 +183,7 @@ pub fn replay(file: &[u8]) -> Vec<u8> {
 }
 
 fn replay_night(night: &Night) -> Vec<u8> {
-    let mut image = *night.image;
+    let mut image = night.image;
     let mut lanes = [LaneRecord::IDLE; LANES];
     start(&mut image, &mut lanes);
     let mut module = Module { image: &mut image, lanes: &mut lanes };

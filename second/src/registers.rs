@@ -1,11 +1,11 @@
-//! Where things sit in the 768-byte memory image, and the codes they carry.
+//! Where things sit in the 896-byte memory image, and the codes they carry.
 //!
-//! The image is lower memory followed by pages 00h, 01h, 02h, 10h and 11h,
-//! 128 bytes each. An upper address runs from 128 to 255, so with the page
+//! The image is lower memory followed by pages 00h, 01h, 02h, 10h, 11h and
+//! 9Fh, 128 bytes each. An upper address runs from 128 to 255, so with the page
 //! bases below a register's place in the image is simply `base + address`.
 
 /// Length of the memory image.
-pub const IMAGE_LEN: usize = 768;
+pub const IMAGE_LEN: usize = 896;
 /// Number of lanes of the one bank.
 pub const LANES: usize = 8;
 /// The "next lane" of a pass that has copied all its lanes.
@@ -21,6 +21,8 @@ pub const P02: usize = 256;
 pub const P10: usize = 384;
 /// Page 11h.
 pub const P11: usize = 512;
+/// Page 9Fh.
+pub const P9F: usize = 640;
 
 // ---- lower memory ----
 
@@ -36,6 +38,14 @@ pub const MODULE_READY: u8 = 0x07;
 /// Lower 8-9: module flags, cleared by reading.
 pub const MODULE_FLAGS: usize = 8;
 pub const MODULE_FLAGS_END: usize = 10;
+/// Bit 6 of lower 8: a command message has been dealt with.
+pub const COMMAND_COMPLETE: u8 = 0x40;
+/// Lower 31: masks of lower 8.
+pub const MODULE_MASKS: usize = 31;
+/// Lower 37: how the last command message ended.
+pub const COMMAND_STATUS: usize = 37;
+/// Lower 39-40: version of the firmware, major and minor.
+pub const FIRMWARE_VERSION: usize = 39;
 /// Lower 86: Application descriptors 1 to 8, of four bytes each.
 pub const DESCRIPTORS: usize = 86;
 /// A descriptor that begins with this ends the list.
@@ -108,6 +118,20 @@ pub const ACTIVE_POST_CURSOR: usize = P11 + 227;
 pub const ACTIVE_AMPLITUDE: usize = P11 + 231;
 pub const DP_INIT_PENDING: usize = P11 + 235;
 
+// ---- page 9Fh: command messages ----
+
+/// Two bytes, high byte first; writing the second one runs the command.
+pub const COMMAND_NUMBER: usize = P9F + 128;
+pub const COMMAND_TRIGGER: usize = P9F + 129;
+/// Length of the body at 136, which is at most `BODY_ROOM`.
+pub const BODY_LENGTH: usize = P9F + 132;
+pub const CHECK_CODE: usize = P9F + 133;
+pub const REPLY_LENGTH: usize = P9F + 134;
+pub const REPLY_CODE: usize = P9F + 135;
+/// Body and reply share one place.
+pub const BODY: usize = P9F + 136;
+pub const BODY_ROOM: usize = 120;
+
 /// Data path states (11h:128-131).
 pub mod dp_state {
     pub const DEACTIVATED: u8 = 1;
@@ -129,6 +153,21 @@ pub mod config_status {
     pub const LANES_IN_USE: u8 = 6;
     pub const PARTIAL_DATA_PATH: u8 = 7;
     pub const IN_PROGRESS: u8 = 12;
+}
+
+/// Numbers of the command messages that there are (9Fh:128-129).
+pub mod command {
+    pub const QUERY_STATUS: u16 = 0x0000;
+    pub const MODULE_FEATURES: u16 = 0x0040;
+    pub const FIRMWARE_FEATURES: u16 = 0x0041;
+    pub const FIRMWARE_INFO: u16 = 0x0100;
+}
+
+/// How a command message ends (lower 37).
+pub mod command_status {
+    pub const SUCCESS: u8 = 0x01;
+    pub const UNKNOWN: u8 = 0x41;
+    pub const WRONG_CODE: u8 = 0x45;
 }
 
 /// The numbers the desk answers with.

@@ -32,6 +32,8 @@ pub struct Stream {
     record: [u8; RECORD_LEN],
     /// The file's image while it comes, the module's from then on.
     image: [u8; IMAGE_LEN],
+    /// How many bytes of it the file has.
+    image_len: usize,
     lanes: [LaneRecord; LANES],
     /// Records that are still to come.
     left: u32,
@@ -47,6 +49,7 @@ impl Stream {
             header: [0; HEADER_LEN],
             record: [0; RECORD_LEN],
             image: [0; IMAGE_LEN],
+            image_len: 0,
             lanes: [LaneRecord::IDLE; LANES],
             left: 0,
             next: 0,
@@ -59,7 +62,7 @@ impl Stream {
         while !piece.is_empty() {
             let room = match self.part {
                 Part::Header => &mut self.header[self.come..],
-                Part::Image => &mut self.image[self.come..],
+                Part::Image => &mut self.image[self.come..self.image_len],
                 Part::Record => &mut self.record[self.come..],
                 Part::End => return self.bad(answer::MALFORMED, printed),
                 Part::Over => return,
@@ -87,9 +90,10 @@ impl Stream {
     /// Judges the part whose last byte has come.
     fn judge(&mut self, printed: &mut Vec<u8>) {
         match self.part {
-            Part::Header => match record_count(&self.header) {
-                Some(count) => {
-                    self.left = count;
+            Part::Header => match read_header(&self.header) {
+                Some(header) => {
+                    self.image_len = header.edition.image_len;
+                    self.left = header.record_count;
                     self.part = Part::Image;
                 }
                 None => self.bad(answer::MALFORMED, printed),

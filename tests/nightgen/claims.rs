@@ -1,8 +1,10 @@
 //! Checks of the papers' claims: soundness, and demand 3.
 
 use crate::aims::Maker;
+use crate::messages::{left_by_write, runs_command};
 use crate::nights::Made;
 use crate::rng::Rng;
+use crate::rules::interrupts;
 use crate::sound_states::make_sound_state;
 use crate::state::*;
 use second::lanes::*;
@@ -13,6 +15,7 @@ use second::soundness;
 #[derive(Default)]
 pub struct Claims {
     pub events: u64,
+    pub commands: u64,
     pub half_copied: u64,
     pub made_states: u64,
     pub made_events: u64,
@@ -32,28 +35,24 @@ impl Claims {
         }
         for (at, event) in made.events.iter().enumerate() {
             let bits = left_out(&now);
-            let page = match now.page() {
-                0x01 => P01,
-                0x02 => P02,
-                0x10 => P10,
-                0x11 => P11,
-                _ => P00,
+            let from = match *event {
+                Event::Read { address, .. } => now.place(address),
+                _ => 0,
             };
+            let before = now.clone();
             let (outcome, read) = now.step(event);
             let (late_outcome, late_read) = late.step_late(event);
             self.events += 1;
+            self.commands += (outcome.answer == 0 && is_command(&before, event)) as u64;
             if now.image != late.image {
                 self.half_copied += 1;
             }
             if outcome != late_outcome {
                 return Err(told(at, event, format!("{:?}, late {:?}", outcome, late_outcome)));
             }
-            if let Event::Read { address, .. } = *event {
-                let from = address as usize + if address < 128 { 0 } else { page };
-                for (index, (one, other)) in read.iter().zip(&late_read).enumerate() {
-                    if (one ^ other) & !bits[from + index] != 0 {
-                        return Err(told(at, event, "read bytes differ".to_string()));
-                    }
+            for (index, (one, other)) in read.iter().zip(&late_read).enumerate() {
+                if (one ^ other) & !bits[from + index] != 0 {
+                    return Err(told(at, event, "read bytes differ".to_string()));
                 }
             }
             if let Some(broken) = soundness::unsound_at(&now.image, &now.lanes) {
@@ -93,6 +92,9 @@ impl Claims {
             {
                 return Err(format!("refused {:?} changed something", event));
             }
+            if outcome.answer == 0 {
+                plainly(&before, &event, &maker.state)?;
+            }
             if let Some(late) = &mut late {
                 self.made_late_events += 1;
                 let (late_outcome, _) = late.step_late(&event);
@@ -105,6 +107,28 @@ impl Claims {
         }
         Ok(())
     }
+}
+
+/// Whether an event that is done runs a command.
+fn is_command(before: &State, event: &Event) -> bool {
+    match *event {
+        Event::Write { address, count, .. } => runs_command(before, address, count as usize),
+        _ => false,
+    }
+}
+
+/// Holds an event that is done against the plain rules of page 9Fh and of the interrupt.
+fn plainly(before: &State, event: &Event, after: &State) -> Result<(), String> {
+    if let Event::Write { address, count, data } = *event {
+        let on_9fh = address >= 128 && before.page() == 0x9F;
+        if on_9fh && after.image != left_by_write(before, address, &data[..count as usize]) {
+            return Err(format!("{:?} on page 9Fh leaves otherwise than the plain rule", event));
+        }
+    }
+    if (after.image[3] & 1 == 0) != interrupts(&after.image) {
+        return Err(format!("{:?} leaves the interrupt otherwise than the plain rule", event));
+    }
+    Ok(())
 }
 
 /// The bits that demand 3 leaves out: active settings of lanes in progress.

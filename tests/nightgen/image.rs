@@ -9,7 +9,7 @@ use second::registers::*;
 pub fn make_image(rng: &mut Rng, wild: bool) -> [u8; IMAGE_LEN] {
     let mut image = [0u8; IMAGE_LEN];
     if rng.percent(40) {
-        for byte in image.iter_mut() {
+        for byte in image[..P9F + 128].iter_mut() {
             *byte = rng.byte();
         }
     }
@@ -25,6 +25,12 @@ pub fn make_image(rng: &mut Rng, wild: bool) -> [u8; IMAGE_LEN] {
         let end = if more.percent(50) { 16 } else { 9 + more.below(7) };
         for a in 9..=15 {
             put_descriptor(&mut more, &mut image, a, end);
+        }
+    }
+    // Start clears page 9Fh, and what it keeps of lower 39-40 is told in a reply.
+    if wild && more.percent(60) {
+        for place in (39..41).chain(P9F + 128..IMAGE_LEN) {
+            image[place] = more.byte();
         }
     }
     image[P01 + 153] = rng.pick(&[0xFF, 0xF5, 0x73, 0x3F, 0x00, 0xF9]);

@@ -2,12 +2,14 @@
 //!
 //! Every night is made event by event against the second program's core, so
 //! that the generator knows the state and can aim: at lanes in progress, at
-//! paths in a given state, at the edges of an access. A plain restatement of
-//! grouping and verdicts is held against the core on the way. The same seed
-//! always gives the same files.
+//! paths in a given state, at the edges of an access, at command messages that
+//! are right but for one byte. A plain restatement of grouping, verdicts and
+//! commands is held against the core on the way. The same seed always gives the
+//! same files.
 //!
 //! * `rng`, `state`: random numbers; the state a night has reached.
-//! * `rules`: grouping and verdicts, said plainly.
+//! * `rules`, `messages`: grouping, verdicts, the interrupt and command
+//!   messages, said plainly.
 //! * `image`, `aims`, `nights`: images, events that aim at the state, and the
 //!   nights and files made of them.
 //! * `coverage`: what must occur, and the counts of what did.
@@ -24,6 +26,7 @@ mod claims;
 mod coverage;
 mod damage;
 mod image;
+mod messages;
 mod nights;
 mod options;
 mod pieces;
@@ -36,7 +39,7 @@ use self::claims::Claims;
 use self::coverage::Coverage;
 use self::damage::Damage;
 use self::image::{limits, put_limits, turned_round};
-use self::nights::{make_night, night_file, night_length, REFUSED_EVERY};
+use self::nights::{edition_of, make_night, night_file, night_length, FIRST, REFUSED_EVERY};
 use self::options::Options;
 use self::pieces::Pieces;
 use self::rng::Rng;
@@ -105,8 +108,10 @@ fn nights(options: &Options) -> Result<(), String> {
             let rising = limits(&made.image);
             put_limits(&mut made.image, turned_round(rising, index / REFUSED_EVERY % 4));
         }
-        let file = night_file(&made.image, &made.events);
+        let edition = edition_of(index);
+        let file = night_file(edition, &made);
         coverage.look_at_start(&made.image, night::check(&file).err().unwrap_or(0));
+        coverage.look_at_edition(edition, &made);
         output.put(index, &file).map_err(failed)?;
     }
     output.finish().map_err(failed)?;
@@ -135,7 +140,9 @@ fn damaged(options: &Options) -> Result<(), String> {
         // What the files listed with an image of a kind must give.
         let wanted = match kind {
             "flat and malformed" | "back to front and malformed"
-            | "back to front, flat and malformed" => 0,
+            | "back to front, flat and malformed"
+            | "edition, offset and length that do not belong together"
+            | "edition that there is not" => 0,
             "flat image" | "back to front and flat" => 1,
             "back to front" => 2,
             "whole" | "longest, whole" | "limits equal, whole" => 3,
@@ -167,7 +174,7 @@ fn bench(options: &Options) -> Result<(), String> {
     let mut uncounted = Coverage::default();
     let made = make_night(&mut Rng(options.seed), options.records, false, &mut uncounted);
     let mut output = options.output()?;
-    output.put(0, &night_file(&made.image, &made.events)).map_err(failed)?;
+    output.put(0, &night_file(FIRST, &made)).map_err(failed)?;
     output.finish().map_err(failed)
 }
 
@@ -180,7 +187,7 @@ fn check(options: &Options) -> Result<(), String> {
     for index in 0..options.count {
         let length = night_length(&mut rng, index);
         let made = make_night(&mut rng, length, true, &mut uncounted);
-        let file = night_file(&made.image, &made.events);
+        let file = night_file(edition_of(index), &made);
         claims
             .night(&made)
             .and_then(|()| pieces.file(&file, &mut cuts))
@@ -195,8 +202,8 @@ fn check(options: &Options) -> Result<(), String> {
         pieces.file(&file, &mut cuts).map_err(|what| counterexample(options, index, &file, what))?;
     }
     println!(
-        "{} nights, {} events: every state reached from start is sound",
-        options.count, claims.events
+        "{} nights, {} events, {} commands run: every state reached from start is sound",
+        options.count, claims.events, claims.commands
     );
     println!(
         "the late run agrees after each of them but for active settings of lanes in progress ({} times these differed)",

@@ -5,7 +5,12 @@ use crate::coverage::Coverage;
 use crate::image::make_image;
 use crate::rng::Rng;
 use second::module::Event;
+use second::night::{Edition, EDITIONS, HEADER_LEN};
 use second::registers::IMAGE_LEN;
+
+/// The editions by name.
+pub const FIRST: Edition = EDITIONS[0];
+pub const SECOND: Edition = EDITIONS[1];
 
 /// A finished night: its image and its events.
 pub struct Made {
@@ -25,7 +30,7 @@ pub fn make_night(rng: &mut Rng, length: usize, wild: bool, coverage: &mut Cover
         let event = maker.next();
         let before = maker.state.clone();
         let (outcome, _) = maker.state.step(&event);
-        coverage.look(&before, &event, &outcome, &maker.state);
+        coverage.look(&before, &event, &outcome, &maker.state, maker.slip);
         events.push(event);
     }
     match length {
@@ -53,13 +58,23 @@ pub fn night_length(rng: &mut Rng, index: usize) -> usize {
     }
 }
 
-pub fn night_file(image: &[u8; IMAGE_LEN], events: &[Event]) -> Vec<u8> {
-    let mut file = b"WL\x01\x00".to_vec();
-    for number in [events.len() as u32, 16, 784] {
-        file.extend_from_slice(&number.to_be_bytes());
+/// The edition of a night: two in three are of the newest, at any length.
+pub fn edition_of(index: usize) -> Edition {
+    match (index + index / 250) % 3 {
+        1 => FIRST,
+        _ => SECOND,
     }
-    file.extend_from_slice(image);
-    for event in events {
+}
+
+/// The file of a night. What its edition has no room for in an image, start
+/// clears anyway.
+pub fn night_file(edition: Edition, made: &Made) -> Vec<u8> {
+    let mut file = vec![b'W', b'L', edition.number, 0];
+    for number in [made.events.len(), HEADER_LEN, edition.records_at()] {
+        file.extend_from_slice(&(number as u32).to_be_bytes());
+    }
+    file.extend_from_slice(&made.image[..edition.image_len]);
+    for event in &made.events {
         file.extend_from_slice(&record_of(event));
     }
     file

@@ -49,10 +49,15 @@ fn streamed(pieces: &[&[u8]]) -> Vec<u8> {
 /// leading records alone; none if these are more than such a file may have.
 fn streamed_plainly(file: &[u8]) -> Option<Vec<u8>> {
     let malformed = b"bad 9\n".to_vec();
-    if file.len() < night::RECORDS_AT {
+    let records_at = match file.get(2) {
+        Some(1) => 784,
+        Some(2) => 912,
+        _ => return Some(malformed),
+    };
+    if file.len() < records_at {
         return Some(malformed);
     }
-    let (beginning, rest) = file.split_at(night::RECORDS_AT);
+    let (beginning, rest) = file.split_at(records_at);
     let of_records = |count: usize, records: &[u8]| {
         let mut made = [beginning, records].concat();
         made[4..8].copy_from_slice(&(count as u32).to_be_bytes());

@@ -1,4 +1,5 @@
-//! Grouping and verdicts, said plainly: held against the core on every trigger.
+//! Grouping, verdicts and the interrupt, said plainly: held against the core on
+//! every trigger, and after every event.
 
 use crate::state::State;
 use second::lanes::*;
@@ -14,6 +15,13 @@ pub const DESCRIPTOR_PLACES: [usize; 15] = [
 /// Where the descriptor of an AppSel begins.
 pub fn descriptor_at(app_sel: u8) -> usize {
     DESCRIPTOR_PLACES[app_sel as usize - 1]
+}
+
+/// Whether something is up that its mask lets through.
+pub fn interrupts(image: &[u8; IMAGE_LEN]) -> bool {
+    let of_a_lane = (0..20).any(|k| image[P11 + 134 + k] & !image[P10 + 213 + k] != 0);
+    let of_a_command = image[8] & 0x40 != 0 && image[31] & 0x40 == 0;
+    of_a_lane || of_a_command
 }
 
 /// The groups a trigger's selected lanes fall into.

@@ -16,13 +16,16 @@ pub fn make_sound_state(rng: &mut Rng) -> State {
     for byte in image[P10 + 128..].iter_mut() {
         *byte = rng.byte();
     }
+    for place in [8, 9, 31, 37] {
+        image[place] = rng.byte();
+    }
     // Nor does it say anything of the limits' order: only start asks.
     if rng.percent(30) {
         let rising = limits(&image);
         put_limits(&mut image, turned_round(rising, rng.below(4)));
     }
     image[BANK_SELECT] = rng.pick(&[0, 0, 0, 3]);
-    image[PAGE_SELECT] = rng.pick(&[0x10, 0x11, 0x10, 0x11, 0x02, 0x42]);
+    image[PAGE_SELECT] = rng.pick(&[0x10, 0x11, 0x10, 0x11, 0x9F, 0x02, 0x42]);
     let mut state = State { image, lanes: [LaneRecord::IDLE; LANES] };
     let put = |image: &mut [u8; IMAGE_LEN], place: usize, lane: u8, value: u8| {
         let byte = &mut image[place + lane as usize / 2];

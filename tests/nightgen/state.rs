@@ -78,9 +78,23 @@ impl State {
     pub fn page(&self) -> u8 {
         match self.image[PAGE_SELECT] {
             page @ (0x01 | 0x02) => page,
-            page @ (0x10 | 0x11) if self.image[BANK_SELECT] == 0 => page,
+            page @ (0x10 | 0x11 | 0x9F) if self.image[BANK_SELECT] == 0 => page,
             _ => 0,
         }
+    }
+
+    /// The place in the image that an address goes to.
+    pub fn place(&self, address: u8) -> usize {
+        let base = match self.page() {
+            _ if address < 128 => 0,
+            0x01 => P01,
+            0x02 => P02,
+            0x10 => P10,
+            0x11 => P11,
+            0x9F => P9F,
+            _ => P00,
+        };
+        base + address as usize
     }
 }
 

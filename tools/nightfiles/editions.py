@@ -1,6 +1,7 @@
 """The editions of the night file, one row each: what differs from edition to edition stands here and nowhere else.
 
 Whatever the edition, a night runs on the module as it is: pages and registers are the module's and not the edition's.
+An image of an edition that is shorter than the module's has zeros on the pages that it lacks.
 """
 
 from typing import NamedTuple
@@ -21,6 +22,9 @@ def edition(number, image_length, kinds):
     return Edition(number, image_length, IMAGE_AT + image_length, kinds)
 
 
+SIX_KINDS = {1: WRITE, 2: READ, 3: WORK, 4: HARDWARE, 5: CONDITION, 6: SAMPLE}
+
 EDITIONS = {
-    1: edition(1, 768, {1: WRITE, 2: READ, 3: WORK, 4: HARDWARE, 5: CONDITION, 6: SAMPLE}),
+    1: edition(1, 768, SIX_KINDS),
+    2: edition(2, 896, SIX_KINDS),
 }

@@ -8,7 +8,7 @@ LOWER = None
 BANK_SELECT = 126
 PAGE_SELECT = 127
 # The pages as they follow lower memory in an image; of each, whether it can be reached only while the bank is 0.
-PAGES = {0x00: False, 0x01: False, 0x02: False, 0x10: True, 0x11: True}
+PAGES = {0x00: False, 0x01: False, 0x02: False, 0x10: True, 0x11: True, 0x9F: True}
 NAMES = {page: "%02Xh" % page for page in PAGES}
 
 

@@ -130,12 +130,34 @@ FLAGS = (
     "Output Status Changed Rx",
 )
 LIMITS = ("high alarm", "low alarm", "high warning", "low warning")
+# Lower 8 and its masks at lower 31, by bit.
+MODULE_FLAGS = {
+    7: "CdbCmdComplete%s2",
+    6: "CdbCmdComplete%s1",
+    2: "DataPathFirmwareError%s",
+    1: "ModuleFirmwareError%s",
+    0: "ModuleStateChanged%s",
+}
+COMMANDS = {
+    0x0000: "Query Status",
+    0x0040: "Module Features",
+    0x0041: "Firmware Management Features",
+    0x0100: "Get Firmware Info",
+}
+# CdbStatus, once a command has been dealt with.
+COMMAND_STATUS = {
+    0x01: "success",
+    0x40: "failed",
+    0x41: "failed (unknown command)",
+    0x42: "failed (parameter)",
+    0x45: "failed (wrong check code)",
+}
 
 
 # ---- what a register's bytes say ----
 #
-# Each of these takes the bytes of a register that were read, by their offset in it, and gives a list of things said.
-# A read may begin or end in the middle.
+# Each of these takes the bytes of a register that were read, by their offset in it, and gives a list of things said,
+# which may be none. A read may begin or end in the middle.
 
 
 def lane_bits(data):
@@ -164,6 +186,55 @@ def memory_model(data):
     model = "flat memory" if data[0] & 0x80 else "paged memory"
     immediate = "ApplyImmediate does nothing" if data[0] & 0x40 else "ApplyImmediate acts"
     return [model, immediate]
+
+
+def module_flags(word):
+    """The bits of lower 8 or 31 that are 1."""
+
+    def words(data):
+        bits = [bit for bit in range(7, -1, -1) if data[0] >> bit & 1]
+        return [MODULE_FLAGS[bit] % word if bit in MODULE_FLAGS else "reserved bit %d" % bit for bit in bits]
+
+    return words
+
+
+def command_status(data):
+    status = data[0]
+    if status & 0x80:
+        return ["busy (%02Xh)" % status]
+    return [COMMAND_STATUS.get(status, "code %02Xh" % status)] if status else []
+
+
+def firmware_version(data):
+    parts = ["%s %d" % (name, data[at]) for at, name in enumerate(("major", "minor")) if data.get(at)]
+    return ["%d.%d" % (data[0], data[1])] if parts and len(data) == 2 else parts
+
+
+def high_byte_first(value_words):
+    """A number of two bytes; of one that was read in part, which half it is."""
+
+    def words(data):
+        if len(data) == 2:
+            return [value_words(data[0] << 8 | data[1])]
+        return ["high byte %02Xh" % data[0] if 0 in data else "low byte %02Xh" % data[1]]
+
+    return words
+
+
+def command_number(value):
+    return "%04Xh (%s)" % (value, COMMANDS.get(value, "not known here"))
+
+
+def byte_count(value):
+    return "%d byte%s" % (value, "" if value == 1 else "s")
+
+
+def length(data):
+    return [byte_count(data[0])]
+
+
+def check_code(data):
+    return ["%02Xh" % data[0]]
 
 
 def selection(data):
@@ -269,6 +340,10 @@ REGISTERS = {
     LOWER: (
         Register(2, 2, "MemoryModel and SteppedConfigOnly", memory_model),
         Register(3, 3, "ModuleState", module_state),
+        Register(8, 8, "module flags", module_flags("Flag")),
+        Register(31, 31, "module masks", module_flags("Mask")),
+        Register(37, 37, "CdbStatus1", command_status),
+        Register(39, 40, "ModuleActiveFirmware", firmware_version),
         Register(86, 117, "Application descriptors", descriptors(1)),
         Register(BANK_SELECT, BANK_SELECT + 1, "BankSelect and PageSelect", selection),
     ),
@@ -298,14 +373,25 @@ REGISTERS = {
         *control_set(206, "active"),
         Register(235, 235, "DPInitPending", lane_bits),
     ),
+    0x9F: (
+        Register(128, 129, "CMDID", high_byte_first(command_number)),
+        Register(130, 131, "EPLLength", high_byte_first(byte_count)),
+        Register(132, 132, "LPLLength", length),
+        Register(133, 133, "CdbChkCode", check_code),
+        Register(134, 134, "RPLLength", length),
+        Register(135, 135, "RPLChkCode", check_code),
+    ),
 }
 
 
 def register_words(page, address, data):
-    """What the bytes of a read say: for each register it touches, addresses and name, and the things said."""
+    """What the bytes of a read say: for each register it touches, addresses and name, and the things said. A register
+    of which nothing is to be said is left out."""
     for register in REGISTERS.get(page, ()):
         first, last = max(register.first, address), min(register.last, address + len(data) - 1)
         if first <= last:
             read = {at - register.first: data[at - address] for at in range(first, last + 1)}
             place = "%d" % first if first == last else "%d-%d" % (first, last)
-            yield "%s %s" % (place, register.name), register.words(read)
+            said = register.words(read)
+            if said:
+                yield "%s %s" % (place, register.name), said

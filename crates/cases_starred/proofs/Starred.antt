@@ -22,7 +22,7 @@ use Rattle.model.specs.Work.{byModule, writtenSettings, withActive, copyLane, c
 use Rattle.model.specs.Hardware.{someBit, toDeinit, toReinit, toDeactivate, signalsOf, nextState, isState, isInitialized, enteredImage, movedImage, movedPathImage, hardwareImage}
 use Rattle.model.specs.Flags.{isConditionFlag, conditionImage, raisedImage, sampledImage, isUnmasked, interrupts, settledImage}
 use Rattle.model.specs.Pages.{findPage, pageStart, selectedStart, indexOf, selectedImage}
-use Rattle.model.specs.Access.{storedState, byteWrittenState, bytesWrittenState, shownByte, takenBytes, clearedImage, halfEnd, isBadAccess}
+use Rattle.model.specs.Access.{storedState, byteWrittenState, bytesWrittenState, writes, runsCommand, endedState, shownByte, takenBytes, clearedImage, halfEnd, isBadAccess}
 use Rattle.model.specs.Start.{isStateByte, startValue, startByte, startedState}
 use Rattle.model.specs.Refusals.{firstOf, isFlat, isBackToFront, wrongLength, imageRefusals, startRefusals, noSuchLane, isBusy, isUnused, eventRefusals}
 use Rattle.model.specs.Step.{readEffect, eventEffect, doneStep, refusedStep, answeredStep, step, run, ending}
@@ -33,5 +33,5 @@ use Rattle.cases_starred.specs.Case.{linesOf, shownBy, holds, changesNot
 use Rattle.cases_starred.specs.Starred.{halfway, starred}
 
 pub starred-hold : T (allHold starred)
-unfolding pick onlyIf both either implies field withField get put digit laneField each tab anyBelow anyOf allBelow seek has maskOf nextIn word putWord settingAt inRanges writable clearing kept stateOf resting commissioned isDone isInProgress isPass isPassing heldIn anyInProgress withStage withStages freedWorking withVerdict advancedWorking descriptorAt listReaches hostLaneCount isPresent lookup appSel pathId explicit settingsAt settingValues limitsOf settingsOf statesOf applicationsOf viewOf isUsed samePath pathOf within joined releasedWith inGroup groupOf someIn everyIn otherAppSel misplaced incomplete crossing outOfLimits unsupported tooLate wrongState applyBy applyVerdict pathRelease releaseVerdict verdictOf sameTrigger sameVerdict agrees sameSettings withStatus isMarked markedStage stageAfter markedState isIgnored triggeredState byModule writtenSettings withActive copyLane copyNext copyGroup isRelease withPending pendingAfter commissionMask closedState closingEffect copiedState workEffectBy workEffectOn workEffect someBit toDeinit toReinit toDeactivate signalsOf nextState isState withPathState withFlags isInitialized enteredImage movedImage movedPathImage hardwareImage isConditionFlag conditionImage raisedImage sampledImage isUnmasked interrupts settledImage findPage pageStart selectedStart indexOf selectedImage storedState byteWrittenState bytesWrittenState shownByte takenBytes clearedImage halfEnd isBadAccess isStateByte startValue startByte startedState firstOf isFlat isBackToFront wrongLength imageRefusals startRefusals noSuchLane isBusy isUnused eventRefusals readEffect eventEffect doneStep refusedStep answeredStep step run ending ascii digitText decimalUpTo decimal hexBytes line badLine linesFrom sameBytes sameStage sameRecords sameState linesOf shownBy holds changesNothing allHold blank holding fourLanes limited applied halfway
+unfolding pick onlyIf both either implies field withField get put digit laneField each tab anyBelow allBelow seek has maskOf nextIn word putWord settingAt inRanges writable clearing kept stateOf resting commissioned isDone isInProgress isPass isPassing heldIn anyInProgress withStage withStages freedWorking withVerdict advancedWorking descriptorAt listReaches hostLaneCount isPresent lookup appSel pathId explicit settingsAt settingValues limitsOf settingsOf statesOf applicationsOf viewOf isUsed samePath pathOf within joined releasedWith inGroup groupOf someIn everyIn otherAppSel misplaced incomplete crossing outOfLimits unsupported tooLate wrongState applyBy applyVerdict pathRelease releaseVerdict verdictOf sameTrigger sameVerdict agrees sameSettings withStatus isMarked markedStage stageAfter markedState isIgnored triggeredState byModule writtenSettings withActive copyLane copyNext copyGroup isRelease withPending pendingAfter commissionMask closedState closingEffect copiedState workEffectBy workEffectOn workEffect someBit toDeinit toReinit toDeactivate signalsOf nextState isState withPathState withFlags isInitialized enteredImage movedImage movedPathImage hardwareImage isConditionFlag conditionImage raisedImage sampledImage isUnmasked anyOf interrupts settledImage findPage pageStart selectedStart indexOf selectedImage storedState byteWrittenState bytesWrittenState writes runsCommand endedState shownByte takenBytes clearedImage halfEnd isBadAccess isStateByte startValue startByte startedState firstOf isFlat isBackToFront wrongLength imageRefusals startRefusals noSuchLane isBusy isUnused eventRefusals readEffect eventEffect doneStep refusedStep answeredStep step run ending ascii digitText decimalUpTo decimal hexBytes line badLine linesFrom sameBytes sameStage sameRecords sameState linesOf shownBy holds changesNothing allHold blank holding fourLanes limited applied halfway
 starred-hold = tt

@@ -1,2 +1,3 @@
 -- The nights in pieces.
 pub mod Streamed
+pub mod Editions

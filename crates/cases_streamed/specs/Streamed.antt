@@ -31,7 +31,7 @@ nightSeen = "0 6" ∷ "1 8" ∷ "2 0 00" ∷ []
 
 -- .. under a header that counts another number of records
 unfoldable pub counting : ℕ → List ℕ
-counting count = headerOf count ++ fourLanes ++ recordsOf three
+counting count = headerOf count ++ take 768 fourLanes ++ recordsOf three
 
 -- a byte more
 unfoldable pub longer : List ℕ → List ℕ
@@ -140,7 +140,7 @@ misheaded i v = printsAt (set night i v) (stop 15 [] malformed ∷ stop 16 malfo
 
 -- a malformed record, the second of three: the line of the first, then 9, and no line of the third
 unfoldable pub noRecord : List ℕ → Bool
-noRecord bytes = prints ((headerOf 3 ++ fourLanes ++ padded (3 ∷ []) ++ padded bytes ++ padded (3 ∷ [])) ∷ []) ("0 6" ∷ "bad 9" ∷ [])
+noRecord bytes = prints ((headerOf 3 ++ take 768 fourLanes ++ padded (3 ∷ []) ++ padded bytes ++ padded (3 ∷ [])) ∷ []) ("0 6" ∷ "bad 9" ∷ [])
 
 abbrev pub nights : List Bool
 nights =

@@ -37,8 +37,9 @@ recordsOf (e ∷ es) = padded (recordOf (e .call) (e .bytes)) ++ recordsOf es
 unfoldable pub headerOf : ℕ → List ℕ
 headerOf count = putWord 4 (putWord 4 (putWord 4 (0x57 ∷ 0x4c ∷ 1 ∷ tab 13 (λ i. 0)) 4 count) 8 16) 12 784
 
+-- an edition 1 file carries the image up to page 9Fh
 unfoldable pub fileOf : Image → List Event → List ℕ
-fileOf x es = headerOf (length es) ++ x ++ recordsOf es
+fileOf x es = headerOf (length es) ++ take 768 x ++ recordsOf es
 
 pub record FileCase : Type 0 where
   pub file : List ℕ
@@ -58,7 +59,7 @@ spoilt i v = record { file = set (fileOf blank []) i v; seen = "bad 9" ∷ [] }
 
 -- a file of one record whose bytes make none: malformed
 abbrev pub noRecord : List ℕ → FileCase
-noRecord bytes = record { file = headerOf 1 ++ blank ++ padded bytes; seen = "bad 9" ∷ [] }
+noRecord bytes = record { file = headerOf 1 ++ take 768 blank ++ padded bytes; seen = "bad 9" ∷ [] }
 
 abbrev pub files : List FileCase
 files =
@@ -99,6 +100,7 @@ files =
     ∷ spoilt 0 0x56
     ∷ spoilt 1 0x4d
     ∷ spoilt 2 0x02
+    ∷ spoilt 2 0x03
     ∷ spoilt 3 0x01
     ∷ spoilt 7 0x01
     ∷ spoilt 11 0x11

@@ -6,6 +6,11 @@ ghost use Rattle.model.specs.Flags.{interrupts, settledImage};
 ghost use Rattle.model.specs.Map.{imageLength};
 use bits::Place;
 
+// Lower 31, the masks of the module's own flags, and the one bit of theirs that counts: CdbCmdCompleteFlag1.
+const MODULE_MASKS: usize = 31;
+
+const COMMAND_COMPLETE: u8 = 0x40;
+
 // The twenty flag bytes 11h:134-153, and their masks 10h:213-232.
 const FLAG_BYTES: usize = map::PAGE_11 + (134 - 128);
 
@@ -22,7 +27,8 @@ fn is_due(image: &[u8]) -> bool
     for k in 0..FLAG_BYTE_COUNT {
         due = due | (image[FLAG_BYTES + k] & !image[FLAG_MASKS + k]);
     }
-    due != 0
+    let own = image[map::MODULE_FLAGS] & COMMAND_COMPLETE & !image[MODULE_MASKS];
+    (own | due) != 0
 }
 
 // Lower 3.0: 0 exactly while the interrupt is due.

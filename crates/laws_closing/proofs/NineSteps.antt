@@ -38,13 +38,12 @@ use Rattle.laws_sound.proofs.Stranger.{in-progress, groups-apart}
 use Rattle.laws_sound.proofs.Reached.{still-accepted, call-is-step}
 use Rattle.laws_step.specs.Told.{stepOn, newlyMarked}
 use Rattle.laws_step.proofs.Frames.{unless}
-use Rattle.laws_step.proofs.Stepped.{not-refused, refused-step}
+use Rattle.laws_step.proofs.Stepped.{not-refused, refused-step, work-on}
 use Rattle.laws_step.proofs.Reading.{read-keeps-records}
 use Rattle.laws_step.proofs.Writing.{write-keeps-record}
 use Rattle.laws_step.proofs.Working.{rejected-closes, copied-lane, passed-closes}
 use Rattle.laws_step.proofs.Moving.{hardware-keeps-records}
 use Rattle.laws_step.proofs.Sensing.{condition-keeps-records, sampled-keeps-records}
-use Rattle.laws_step.proofs.Reserving.{work-on}
 use Rattle.laws_closing.specs.Closing.{mostWorkSteps, isWorkOn, worksOn, AllIn, AllIdle, ClosesWithin}
 
 -- the work steps that are left at most: one for a rejection; for a pass one for each lane from its next one on, and the closing one

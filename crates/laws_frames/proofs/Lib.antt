@@ -1,6 +1,8 @@
 -- What each change of the image leaves of each register.
+pub mod Ranges
 pub mod Outside
 pub mod Registers
 pub mod Changes
 pub mod Back
 pub mod Stages
+pub mod Commands

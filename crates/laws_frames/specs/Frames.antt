@@ -6,7 +6,7 @@ use Prim.Native.Nat.{ℕ, _+_, _^_, _≤_, _<_}
 use lib.ListN.{length, getD}
 use Rattle.bits.specs.Sets.{Lane}
 use Rattle.model.specs.Numbers.{Byte, Index}
-use Rattle.model.specs.Map.{Image, page10, stateBytes, statusBytes, pendingByte, flagBytes, settingCount, settingWidths}
+use Rattle.model.specs.Map.{Image, imageLength, moduleFlags, commandStatus, replyLength, page10, stateBytes, statusBytes, pendingByte, flagBytes, settingCount, settingWidths}
 use Rattle.model.specs.View.{settingValues}
 use Rattle.model.specs.declared.lane.Settings.{Settings}
 
@@ -47,6 +47,11 @@ SameAdvertised x y = (i : ℕ) → Advertised i → getD y i 0 ≡ getD x i 0
 pub record SameOffPath (x y : Image) : Type 0 where
   pub size : length y ≡ length x
   pub byte : (i : ℕ) → Beside stateBytes stateEnd i → Beside flagBytes (flagBytes + 1) i → Beside pendingByte pendingEnd i → getD y i 0 ≡ getD x i 0
+
+-- y has x's length, and x's bytes but for lower 8, lower 37 and 9Fh:134-255
+pub record SameOffCommand (x y : Image) : Type 0 where
+  pub size : length y ≡ length x
+  pub byte : (i : ℕ) → i ≢ moduleFlags → i ≢ commandStatus → Beside replyLength imageLength i → getD y i 0 ≡ getD x i 0
 
 -- ---- values and lanes
 

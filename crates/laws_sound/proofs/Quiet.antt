@@ -1,28 +1,29 @@
 -- Changes of bytes that soundness does not look at; and the invariant that events keep. Assumes nothing.
 use mathlib.Core.Path.{_≡_, refl, _∙_}
-use mathlib.Core.Bool.{Bool, true, false}
+use mathlib.Core.Bool.{true}
 use mathlib.Core.List.{List, [], _∷_}
 use mathlib.Core.Logic.{inl, inr}
 use Prim.Native.Nat.{ℕ, suc, _+_, _-_, _≤_, _<_}
 use native.Mathlib.Decide.{decLt}
 use native.Mathlib.Omega.{arith}
-use lib.Dec.{leb, ltb}
 use lib.ListN.{length, getD, set}
-use borrow.Author.Tests.{leb-true, ltb-true, le-leb}
 use Rattle.bits.specs.Choice.{both, either}
 use Rattle.bits.specs.Place.{get}
-use Rattle.bits.proofs.Tests.{split, clash, both-l, both-r, either-cases}
-use Rattle.model.specs.Map.{Image, Range, range, rangeOn, on, page11, inRanges, writableRanges, writable, clearedRanges, clearing, activeSet, statusAt, pendingAt, imageLength, stateBytes, statusBytes, page10, flagBytes}
+use Rattle.bits.proofs.Tests.{split, clash, either-cases}
+use Rattle.model.specs.Map.{Image, Range, range, rangeOn, on, page11, inRanges, writableRanges, writable, clearedRanges, clearing, activeSet, statusAt, pendingAt, imageLength, stateBytes, statusBytes, page10, page9F, flagBytes, moduleFlags, commandStatus, replyLength}
 use Rattle.model.specs.State.{State}
 use Rattle.model.specs.Flags.{isConditionFlag, conditionImage, sampledImage, settledImage}
 use Rattle.model.specs.Pages.{selectedImage}
 use Rattle.model.specs.Access.{clearedImage}
+use Rattle.model.specs.Commands.{commandImage}
 use Rattle.model.specs.declared.lane.Working.{Working}
+use Rattle.laws_frames.proofs.Ranges.{between, apartFrom, not-in, coveredBy, covered-in, allCovered, ranges-in}
 use Rattle.laws_frames.proofs.Outside.{set-outside}
 use Rattle.laws_frames.proofs.Registers.{settings-same, states-same, applications-same, status-same, pending-same}
 use Rattle.laws_frames.proofs.Changes.{settled-outside, sampled-outside, flags-outside, selected-outside, cleared-byte, cleared-length}
+use Rattle.laws_frames.proofs.Commands.{command-off}
 use Rattle.laws_sound.specs.Sound.{seenOf, Sound}
-use Rattle.laws_frames.specs.Frames.{Beside, SameOutside, stateEnd, pendingEnd, Advertised}
+use Rattle.laws_frames.specs.Frames.{Beside, SameOutside, SameOffCommand, stateEnd, pendingEnd, Advertised}
 use Rattle.laws_sound.proofs.Closing.{quiet-sound}
 
 -- what holds of every state reached: the length of its image, lower byte 2 as it was, sound
@@ -31,70 +32,10 @@ pub record Well (two : ℕ) (s : State) : Type 0 where
   pub low : getD (s .image) 2 0 ≡ two
   pub sound : Sound (seenOf s)
 
--- ---- ranges of bytes
-
-between : (a i b : ℕ) → both (leb a i) (leb i b) ≡ true → (a ≤ i) × (i ≤ b)
-between a i b e = (leb-true a i (both-l _ _ e), leb-true i b (both-r _ _ e))
-
-inside : (a i b : ℕ) → a ≤ i → i ≤ b → both (leb a i) (leb i b) ≡ true
-unfolding both
-inside a i b p q = rw (le-leb a i p, le-leb i b q, both)
-
-either-here : (a b : Bool) → a ≡ true → either a b ≡ true
-unfolding either
-either-here a b e = rw (e, either)
-
-either-there : (a b : Bool) → b ≡ true → either a b ≡ true
-unfolding either
-either-there true b e = refl
-either-there false b e = e
-
--- the bytes lo .. hi - 1 lie apart from every range of a list
-unfoldable apartFrom : ℕ → ℕ → List Range → Bool
-apartFrom lo hi [] = true
-apartFrom lo hi (r ∷ rs) = both (either (ltb (r .to) lo) (leb hi (r .from))) (apartFrom lo hi rs)
-
-not-in : (lo hi : ℕ) (rs : List Range) (i : ℕ) → apartFrom lo hi rs ≡ true → lo ≤ i → i < hi → inRanges rs i ≡ true → ⊥
-unfolding apartFrom inRanges
-not-in lo hi [] i e a b f = clash f refl
-not-in lo hi (r ∷ rs) i e a b f = elim (either-cases _ _ f) [
-  | inl t ↦ elim (either-cases _ _ (both-l _ _ e)) [
-    | inl p ↦ let h = between (r .from) i (r .to) t in let k : r .to < lo = ltb-true (r .to) lo p in omega arith
-    | inr p ↦ let h = between (r .from) i (r .to) t in let k : hi ≤ r .from = leb-true hi (r .from) p in omega arith
-  ]
-  | inr t ↦ not-in lo hi rs i (both-r _ _ e) a b t
-]
-
--- a range lies within one of a list
-unfoldable coveredBy : List Range → Range → Bool
-coveredBy [] r = false
-coveredBy (f ∷ fs) r = either (both (leb (f .from) (r .from)) (leb (r .to) (f .to))) (coveredBy fs r)
-
-covered-in : (fs : List Range) (r : Range) (i : ℕ) → coveredBy fs r ≡ true → r .from ≤ i → i ≤ r .to → inRanges fs i ≡ true
-unfolding coveredBy inRanges
-covered-in [] r i e a b = absurd (clash e refl)
-covered-in (f ∷ fs) r i e a b = elim (either-cases _ _ e) [
-  | inl t ↦ let p : f .from ≤ r .from = leb-true _ _ (both-l _ _ t) in let q : r .to ≤ f .to = leb-true _ _ (both-r _ _ t) in
-      either-here _ _ (inside (f .from) i (f .to) (omega arith) (omega arith))
-  | inr t ↦ either-there _ _ (covered-in fs r i t a b)
-]
-
-unfoldable allCovered : List Range → List Range → Bool
-allCovered fs [] = true
-allCovered fs (r ∷ rs) = both (coveredBy fs r) (allCovered fs rs)
-
-ranges-in : (fs rs : List Range) (i : ℕ) → allCovered fs rs ≡ true → inRanges rs i ≡ true → inRanges fs i ≡ true
-unfolding inRanges allCovered
-ranges-in fs [] i e h = absurd (clash h refl)
-ranges-in fs (r ∷ rs) i e h = elim (either-cases _ _ h) [
-  | inl t ↦ covered-in fs r i (both-l _ _ e) (between (r .from) i (r .to) t .0) (between (r .from) i (r .to) t .1)
-  | inr t ↦ ranges-in fs rs i (both-r _ _ e) t
-]
-
 -- ---- bytes that soundness does not look at
 
 abbrev freeRanges : List Range
-freeRanges = range 3 85 ∷ range 118 127 ∷ range page10 (page11 - 1) ∷ range stateEnd (statusBytes - 1) ∷ []
+freeRanges = range 3 85 ∷ range 118 127 ∷ range page10 (page11 - 1) ∷ range stateEnd (statusBytes - 1) ∷ range page9F (imageLength - 1) ∷ []
 
 abbrev pub Free : ℕ → Type 0
 Free i = inRanges freeRanges i ≡ true
@@ -199,3 +140,26 @@ cleared-quiet x i n = record {
   size = cleared-length x i n;
   byte = λ j f. cleared-byte x i n j (split (clearing j) (λ t. absurd (f (clearing-free j t))) (λ t. t));
 }
+
+-- a command changes free bytes alone
+pub command-quiet : (x : Image) → Quiet x (commandImage x)
+unfolding coveredBy both either
+command-quiet x = record { size = C .size; byte = λ i n. C .byte i (λ e. n (flags-free i e)) (λ e. n (status-free i e)) (beside i n) }
+  where
+    C : SameOffCommand x (commandImage x)
+    C = command-off x
+
+    flags-free : (i : ℕ) → i ≡ moduleFlags → Free i
+    flags-free i e = covered-in freeRanges (range moduleFlags moduleFlags) i refl (omega arith) (omega arith)
+
+    status-free : (i : ℕ) → i ≡ commandStatus → Free i
+    status-free i e = covered-in freeRanges (range commandStatus commandStatus) i refl (omega arith) (omega arith)
+
+    beside : (i : ℕ) → (Free i → ⊥) → Beside replyLength imageLength i
+    beside i n = elim (decLt i replyLength) [
+      | yes h ↦ inl h
+      | no h ↦ elim (decLt i imageLength) [
+        | yes k ↦ absurd (n (covered-in freeRanges (range replyLength (imageLength - 1)) i refl (omega arith) (omega arith)))
+        | no k ↦ inr (omega arith)
+      ]
+    ]

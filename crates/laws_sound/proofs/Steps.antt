@@ -8,7 +8,7 @@ use native.Mathlib.Omega.{arith}
 use lib.Dec.{eqb}
 use lib.ListN.{take}
 use borrow.Author.Tests.{ltb-true, not-false}
-use Rattle.bits.specs.Choice.{pick}
+use Rattle.bits.specs.Choice.{pick, onlyIf}
 use Rattle.bits.specs.Place.{get}
 use Rattle.bits.proofs.Tests.{split, clash, either-l, pick-true, pick-false}
 use Rattle.model.specs.Map.{Image, pageSelect, applyDPInit, applyImmediate, stagedSet0, writable, activeSet, statusAt, pendingAt, setLength, stateBytes, pendingByte, statusBytes}
@@ -16,11 +16,12 @@ use Rattle.model.specs.Statuses.{inProgress}
 use Rattle.model.specs.Answers.{isDone}
 use Rattle.model.specs.Records.{stageAt, isInProgress, withStages}
 use Rattle.model.specs.View.{View, viewOf, settingsOf, of, isUsed}
-use Rattle.model.specs.State.{State}
+use Rattle.model.specs.State.{State, stateWith}
 use Rattle.model.specs.Registers.{withStatus}
 use Rattle.model.specs.Triggers.{isMarked, stageAfter, markedState, isIgnored, triggeredState}
 use Rattle.model.specs.Work.{early}
-use Rattle.model.specs.Access.{storedState, byteWrittenState, bytesWrittenState}
+use Rattle.model.specs.Commands.{commandImage}
+use Rattle.model.specs.Access.{storedState, byteWrittenState, bytesWrittenState, endedState}
 use Rattle.model.specs.Refusals.{Refusal, firstOf, noSuchLane, isBusy, isUnused, eventRefusals}
 use Rattle.model.specs.Step.{readEffect, eventEffect, doneStep, refusedStep, answeredStep, step}
 use Rattle.model.specs.declared.lane.Trigger.{Trigger}
@@ -28,6 +29,7 @@ use Rattle.model.specs.declared.lane.Trigger.the-variants.{DpInit, Immediate}
 use Rattle.model.specs.declared.event.Call.{Call}
 use Rattle.model.specs.declared.event.Call.the-variants.{Write, Read, Work, Hardware, Condition, Sample}
 use Rattle.model.specs.declared.event.Event.{Event}
+use Rattle.model.specs.declared.lane.Working.{Working}
 use Rattle.laws_frames.proofs.Outside.{below-range, above-range}
 use Rattle.laws_frames.proofs.Registers.{settings-same, states-same, advertised-below, applications-same, pending-same}
 use Rattle.laws_frames.proofs.Changes.{status-outside}
@@ -37,7 +39,7 @@ use Rattle.laws_sound.specs.Sound.{Seen, seenOf}
 use Rattle.laws_frames.specs.Frames.{SameOutside, stateEnd, statusEnd, pendingEnd}
 use Rattle.laws_sound.proofs.Closing.{quiet-sound}
 use Rattle.laws_sound.proofs.Marking.{marking}
-use Rattle.laws_sound.proofs.Quiet.{Well, quiet-well, set-quiet, selected-quiet, settled-quiet, sampled-quiet, condition-quiet, cleared-quiet}
+use Rattle.laws_sound.proofs.Quiet.{Well, quiet-well, set-quiet, selected-quiet, settled-quiet, sampled-quiet, condition-quiet, cleared-quiet, command-quiet}
 use Rattle.laws_sound.proofs.WorkSteps.{settings-lane, work-well}
 use Rattle.laws_sound.proofs.PathEvents.{hardware-well}
 
@@ -110,6 +112,17 @@ unfolding bytesWrittenState byteWrittenState
 bytes-well two address [] s W = W
 bytes-well two address (v ∷ vs) s W = bytes-well two (suc address) vs _ (stored-well two _ v s W)
 
+-- ---- the end of a write
+
+only-well : (two : ℕ) (t : Bool) (f : Image → Image) (x : Image) (w : Working) → Well two (stateWith x w) → Well two (stateWith (f x) w) → Well two (stateWith (onlyIf t f x) w)
+unfolding onlyIf
+only-well two true f x w W U = U
+only-well two false f x w W U = W
+
+ended-well : (two address n : ℕ) (s : State) → Well two s → Well two (endedState address n s)
+unfolding endedState
+ended-well two address n s W = only-well two _ commandImage (s .image) (s .working) W (quiet-well two (s .image) _ (s .working) (command-quiet (s .image)) W)
+
 -- ---- calls that are not refused
 
 pub not-refused : (r : Refusal) (rs : List Refusal) → isDone (r .answer) ≡ false → isDone (firstOf (r ∷ rs)) ≡ true
@@ -134,7 +147,7 @@ not-unused s l e = not-false _ e
 carried-well : (two room : ℕ) (s : State) (bytes : List ℕ) (call : Call) → Well two s → isDone (firstOf (eventRefusals room s call)) ≡ true
     → Well two (eventEffect early s bytes call .state)
 unfolding eventEffect readEffect eventRefusals isDone
-carried-well two room s bytes (Write address count) W e = bytes-well two address (take count bytes) s W
+carried-well two room s bytes (Write address count) W e = ended-well two address count _ (bytes-well two address (take count bytes) s W)
 carried-well two room s bytes (Read address count) W e = quiet-well two (s .image) _ (s .working) (cleared-quiet (s .image) _ count) W
 carried-well two room s bytes (Work l) W e = work-well two s l W (a-lane l (not-refused _ _ refl e .0))
 carried-well two room s bytes (Hardware l) W e =

@@ -1,5 +1,6 @@
 -- What each event changes, said of the step.
 pub mod Frames
+pub mod Within
 pub mod Settling
 pub mod Stepped
 pub mod Places
@@ -11,11 +12,12 @@ pub mod Held
 pub mod Working
 pub mod Bytes
 pub mod Middle
+pub mod Commanding
 pub mod Writing
 pub mod Paging
 pub mod Moving
 pub mod Muting
 pub mod Sensing
-pub mod Reserving
+pub mod Keeping
 pub mod Calling
 pub mod Running

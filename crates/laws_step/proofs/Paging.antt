@@ -9,7 +9,7 @@ use lib.Dec.{eqb, ltb}
 use lib.ListN.{length, getD, set, take, length-set}
 use lib.Seq.{getD-set-same, getD-set-other, length-take-le, take-suc}
 use borrow.Author.Tests.{eqb-true, eq-eqb, ltb-true, lt-ltb, le-leb, lt-leb}
-use Rattle.bits.specs.Choice.{pick, both, either, implies}
+use Rattle.bits.specs.Choice.{pick, onlyIf, both, either, implies}
 use Rattle.bits.specs.Loop.{anyBelow, anyOf}
 use Rattle.bits.proofs.Tests.{clash, bool-eq, either-assoc, either-none}
 use Rattle.bits.proofs.Loops.{any-one, any-find}
@@ -17,7 +17,7 @@ use Rattle.bits.proofs.Members.{any-of-i}
 use Rattle.model.specs.Map.{Image, imageLength, bankSelect, pageSelect, inRanges, writable}
 use Rattle.model.specs.State.{State, withImage}
 use Rattle.model.specs.Pages.{pages, pageStart, indexOf, withPage, selectedImage}
-use Rattle.model.specs.Access.{storedState, byteWrittenState, bytesWrittenState, halfEnd}
+use Rattle.model.specs.Access.{storedState, byteWrittenState, bytesWrittenState, endedState, halfEnd}
 use Rattle.model.specs.Flags.{settledImage}
 use Rattle.model.specs.Step.{event, eventEffect, doneStep}
 use Rattle.model.specs.declared.answer.Answer.the-variants.{Done}
@@ -29,6 +29,7 @@ use Rattle.laws_step.proofs.Settling.{settled-byte}
 use Rattle.laws_step.proofs.Stepped.{done-step}
 use Rattle.laws_step.proofs.Bytes.{lower-written}
 use Rattle.laws_step.proofs.Middle.{bytes-append, in-the-middle}
+use Rattle.laws_step.proofs.Commanding.{lower-runs-none}
 use Rattle.laws_step.proofs.Writing.{in-half}
 
 -- ---- the lookup finds the pages that are supported, and no other
@@ -133,12 +134,12 @@ bank-until s a (suc k) bytes size n e =
 pub page-rule : (room : ℕ) (s : State) (address count : ℕ) (bytes : List ℕ) → length (s .image) ≡ imageLength → count ≤ length bytes
     → stepOn room s (Write address count) bytes .answer ≡ Done → address ≤ pageSelect → pageSelect < address + count
     → PageRule (bankAt (s .image) address bytes) (getD bytes (pageSelect - address) 0) (stepOn room s (Write address count) bytes .state .image)
-unfolding doneStep eventEffect halfEnd until pick
+unfolding doneStep eventEffect endedState onlyIf halfEnd until pick
 page-rule room s address count bytes size n d lo hi =
     let k = 127 - address in
     let end : address + count ≤ 128 = rw (lt-ltb address 128 (omega arith), pick) at (in-half room s bytes address count d) in
     let c : count ≡ suc k = omega arith in
     let e : address + k ≡ 127 = omega arith in
     let m : suc k ≤ length bytes = omega arith in
-    rw (done-step room s (event (Write address count) bytes) d, c, last-byte s address k bytes size m e, ← (bank-until s address k bytes size m e))
+    rw (done-step room s (event (Write address count) bytes) d, lower-runs-none address count _ (omega arith), onlyIf, c, last-byte s address k bytes size m e, ← (bank-until s address k bytes size m e))
     (rule-settled (until s address k bytes size m e .image) (getD bytes k 0) (until-size s address k bytes size m e))

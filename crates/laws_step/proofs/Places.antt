@@ -1,76 +1,44 @@
 -- Where the registers lie that events change: each in bytes of its own. Assumes nothing.
 use mathlib.Core.Path.{_≡_, refl}
-use mathlib.Core.Bool.{Bool, true, false}
-use mathlib.Core.List.{List, [], _∷_}
-use mathlib.Core.Logic.{inl, inr}
+use mathlib.Core.Bool.{true, false}
+use mathlib.Core.List.{[], _∷_}
 use Prim.Native.Nat.{ℕ, _+_, _-_, _%_, _≤_, _<_}
 use native.Mathlib.Omega.{arith}
-use lib.Dec.{eqb, leb, ltb}
+use lib.Dec.{eqb, leb}
 use lib.ListN.{length, getD}
-use borrow.Author.Tests.{eqb-true, leb-true, ltb-true}
+use borrow.Author.Tests.{eqb-true, leb-true}
 use Rattle.bits.specs.Choice.{both, either}
 use Rattle.bits.specs.Lane.{laneField}
 use Rattle.bits.specs.Loop.{allBelow}
 use Rattle.bits.specs.Place.{get, covers}
-use Rattle.bits.proofs.Tests.{clash, both-l, both-r, either-cases}
+use Rattle.bits.proofs.Tests.{both-l, both-r}
 use Rattle.bits.proofs.Loops.{all-at}
 use Rattle.bits.proofs.Lanes.{lane-in}
 use Rattle.bits.proofs.Places.{covers-in}
-use Rattle.model.specs.Map.{Image, Range, range, inRanges, writableRanges, writable, clearedRanges, clearing, activeSet, settingOffsets, settingWidths, settingAt, setLength, imageLength, page11, pageLength}
+use Rattle.model.specs.Map.{Image, range, writableRanges, writable, clearedRanges, clearing, activeSet, settingOffsets, settingWidths, settingAt, setLength, imageLength, page11, pageLength}
 use Rattle.model.specs.Flags.{isConditionFlag}
 use Rattle.model.specs.View.{settingsAt}
+use Rattle.laws_frames.proofs.Ranges.{apartFrom, not-in, coveredBy, allCovered, spanned}
 use Rattle.laws_step.specs.Changes.{Bits, ChangesOnly}
 use Rattle.laws_step.proofs.Frames.{keeps-get}
 
--- every range lies between two bytes
-spans : ℕ → ℕ → List Range → Bool
-spans lo hi [] = true
-spans lo hi (r ∷ rs) = both (both (leb lo (r .from)) (leb (r .to) hi)) (spans lo hi rs)
-
-ranges-in : (rs : List Range) (lo hi i : ℕ) → spans lo hi rs ≡ true → inRanges rs i ≡ true → (lo ≤ i) × (i ≤ hi)
-unfolding spans inRanges
-ranges-in [] lo hi i s e = absurd (clash e refl)
-ranges-in (r ∷ rs) lo hi i s e = elim (either-cases _ _ e) [
-  | inl t ↦ let a : lo ≤ r .from = leb-true _ _ (both-l _ _ (both-l _ _ s)) in
-      let b : r .to ≤ hi = leb-true _ _ (both-r _ _ (both-l _ _ s)) in
-      let c : r .from ≤ i = leb-true _ _ (both-l _ _ t) in
-      let d : i ≤ r .to = leb-true _ _ (both-r _ _ t) in
-      (omega arith, omega arith)
-  | inr t ↦ ranges-in rs lo hi i (both-r _ _ s) t
-]
-
--- every range ends before a byte or begins after another
-misses : ℕ → ℕ → List Range → Bool
-misses lo hi [] = true
-misses lo hi (r ∷ rs) = both (either (ltb (r .to) lo) (ltb hi (r .from))) (misses lo hi rs)
-
-ranges-out : (rs : List Range) (lo hi i : ℕ) → misses lo hi rs ≡ true → inRanges rs i ≡ true → lo ≤ i → i ≤ hi → ⊥
-unfolding misses inRanges
-ranges-out [] lo hi i s e a b = clash e refl
-ranges-out (r ∷ rs) lo hi i s e a b = elim (either-cases _ _ e) [
-  | inl t ↦ let c : r .from ≤ i = leb-true _ _ (both-l _ _ t) in
-      let d : i ≤ r .to = leb-true _ _ (both-r _ _ t) in
-      elim (either-cases _ _ (both-l _ _ s)) [ inl f ↦ omega (arith, ltb-true (r .to) lo f) | inr f ↦ omega (arith, ltb-true hi (r .from) f) ]
-  | inr t ↦ ranges-out rs lo hi i (both-r _ _ s) t a b
-]
-
 -- a byte that is written lies in the image, past byte 3, and none lies on page 11h
 pub writable-in : (i : ℕ) → writable i ≡ true → (3 < i) × (i < imageLength)
-unfolding writable spans both
-writable-in i e = let r = ranges-in writableRanges 4 (imageLength - 1) i refl e in (omega arith, omega arith)
+unfolding writable allCovered coveredBy both either
+writable-in i e = let r = spanned 4 (imageLength - 1) writableRanges i refl e in (omega arith, omega arith)
 
 pub writable-out : (i : ℕ) → writable i ≡ true → page11 ≤ i → i < page11 + pageLength → ⊥
-unfolding writable misses both either
-writable-out i e a b = ranges-out writableRanges page11 (page11 + pageLength - 1) i refl e a (omega arith)
+unfolding writable apartFrom both either
+writable-out i e a b = not-in page11 (page11 + pageLength) writableRanges i refl a b e
 
 -- the bytes that are cleared, and that conditions name
 pub clearing-in : (i : ℕ) → clearing i ≡ true → (8 ≤ i) × (i ≤ 665)
-unfolding clearing spans both
-clearing-in i e = ranges-in clearedRanges 8 665 i refl e
+unfolding clearing allCovered coveredBy both either
+clearing-in i e = spanned 8 665 clearedRanges i refl e
 
 pub condition-in : (flag : ℕ) → isConditionFlag flag ≡ true → (135 ≤ flag) × (flag ≤ 148)
-unfolding isConditionFlag spans both
-condition-in flag e = ranges-in (range 135 138 ∷ range 147 148 ∷ []) 135 148 flag refl e
+unfolding isConditionFlag allCovered coveredBy both either
+condition-in flag e = spanned 135 148 (range 135 138 ∷ range 147 148 ∷ []) flag refl e
 
 -- a set of settings takes 29 bytes from its base on, and no field passes a byte's end
 settings-fit : allBelow 8 (λ k. both (leb (getD settingOffsets k 0 + getD settingWidths k 0) 29) (eqb (8 % getD settingWidths k 0) 0)) ≡ true

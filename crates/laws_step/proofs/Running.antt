@@ -1,7 +1,7 @@
 -- What holds after every event: lower 3.0 follows the flags, and after any calls from start 11h:215-216 are 0. Assumes nothing.
 use mathlib.Core.Path.{_≡_, refl, sym, ap, _∙_}
 use mathlib.Core.Bool.{Bool, false, not}
-use mathlib.Core.List.{List}
+use mathlib.Core.List.{List, _∷_}
 use mathlib.Core.Logic.{_↔_, inl, inr}
 use Prim.Native.Nat.{ℕ, _<_}
 use native.Mathlib.Omega.{arith}
@@ -16,7 +16,7 @@ use Rattle.bits.proofs.Tests.{split, clash, both-l, both-r, pick-false}
 use Rattle.bits.proofs.Number.{field-past}
 use Rattle.bits.proofs.Loops.{tab-at, length-tab}
 use Rattle.bits.proofs.Members.{any-of-none}
-use Rattle.model.specs.Map.{Image, imageLength, interruptBit, FlagPair, flagPairs, inRanges, kept}
+use Rattle.model.specs.Map.{Image, imageLength, interruptBit, commandStatus, FlagPair, flagPairs, range, inRanges, kept}
 use Rattle.model.specs.Answers.{isDone}
 use Rattle.model.specs.State.{State}
 use Rattle.model.specs.Work.{early}
@@ -28,11 +28,11 @@ use Rattle.model.specs.declared.answer.Answer.the-variants.{Done}
 use Rattle.model.specs.declared.event.Event.{Event}
 use Rattle.laws.specs.Calls.{Called, stateAfter}
 use Rattle.laws.proofs.Unchanged.{done-is}
-use Rattle.laws_step.specs.Told.{UnmaskedFlag, Reserved, Settled}
+use Rattle.laws_step.specs.Told.{UnmaskedFlag, changedRanges, Reserved, Settled}
 use Rattle.laws_step.proofs.Frames.{unless}
 use Rattle.laws_step.proofs.Settling.{settled-changes, settled-if, unmasked, settled-bit, settled-twice}
 use Rattle.laws_step.proofs.Stepped.{done-step, refused-step}
-use Rattle.laws_step.proofs.Reserving.{step-kept}
+use Rattle.laws_step.proofs.Keeping.{step-kept}
 use Rattle.laws_step.proofs.Calling.{calls-from-start}
 
 -- ---- one event
@@ -101,6 +101,11 @@ module _ (x : Image) where
 
 -- ---- any calls after it
 
+reserved-kept : (i : ℕ) → Reserved i → inRanges (range commandStatus commandStatus ∷ changedRanges) i ≡ false
+unfolding inRanges both either
+reserved-kept i (inl e) = rw e refl
+reserved-kept i (inr e) = rw e refl
+
 module _ (x : Image) (cs : List Called) (d : startOutcome x .answer ≡ Done) where
   -- the image keeps its length
   pub run-size : length (stateAfter (startOutcome x .state) cs .image) ≡ imageLength
@@ -109,7 +114,7 @@ module _ (x : Image) (cs : List Called) (d : startOutcome x .answer ≡ Done) wh
   -- 11h:215-216 are 0
   pub run-reserved : (i : ℕ) → Reserved i → getD (stateAfter (startOutcome x .state) cs .image) i 0 ≡ 0
   run-reserved = calls-from-start (λ s. (i : ℕ) → Reserved i → getD (s .image) i 0 ≡ 0)
-      (λ room s e p i r. step-kept room s e .reserved i r ∙ p i r) x cs d (start-reserved x)
+      (λ room s e p i r. step-kept room s e .others i (reserved-kept i r) ∙ p i r) x cs d (start-reserved x)
 
   -- lower 3.0 is settled, and so 0 exactly when an unmasked flag bit is 1
   pub run-settled : Settled (stateAfter (startOutcome x .state) cs .image)

@@ -3,15 +3,15 @@ use mathlib.Core.Path.{_≡_, refl, sym, ap, _∙_}
 use mathlib.Core.Bool.{Bool, true, false, not}
 use mathlib.Core.List.{List, [], _∷_}
 use mathlib.Core.Logic.{_↔_}
-use Prim.Native.Nat.{ℕ, _+_, _≤_, _<_}
+use Prim.Native.Nat.{ℕ, _+_, _<_}
 use native.Mathlib.Omega.{arith}
 use lib.ListN.{length, getD}
-use borrow.Author.Tests.{eqb-true, eq-eqb, ne-eqb, le-leb, not-true}
+use borrow.Author.Tests.{eqb-true, eq-eqb, ne-eqb, not-true}
 use Rattle.bits.specs.Choice.{pick, both, either}
 use Rattle.bits.specs.Lane.{laneField}
 use Rattle.bits.specs.Loop.{tab, anyOf}
 use Rattle.bits.specs.Place.{get, put, digit, covers}
-use Rattle.bits.proofs.Tests.{split, clash, both-l, both-r, both-i, either-l, either-r, either-i-l}
+use Rattle.bits.proofs.Tests.{split, clash, both-l, both-r, both-i, either-l, either-r}
 use Rattle.bits.proofs.Places.{get-put-fits, put-put, put-got, covers-in}
 use Rattle.bits.proofs.Loops.{any-one, any-find, any-ext}
 use Rattle.bits.proofs.Members.{any-of-i, any-of-find, any-of-none, any-of-ext}
@@ -20,16 +20,9 @@ use Rattle.model.specs.Flags.{isUnmasked, interrupts, settledImage}
 use Rattle.laws_step.specs.Changes.{Bits, ChangesOnly, interruptSet}
 use Rattle.laws_step.specs.Told.{UnmaskedFlag, Settled}
 use Rattle.laws_step.proofs.Frames.{unless, keeps-put, keeps-get, keeps-byte}
+use Rattle.laws_step.proofs.Within.{Within, within-place}
 
 -- ---- what leaves the flags alone
-
--- a set of bits lies in the bytes of the ranges
-abbrev pub Within : List Range → Bits → Type 0
-Within rs may = (i b : ℕ) → may i b ≡ true → inRanges rs i ≡ true
-
-pub in-range : (from to i : ℕ) → from ≤ i → i ≤ to → inRanges (range from to ∷ []) i ≡ true
-unfolding inRanges
-in-range from to i a b = either-i-l _ _ (both-i (le-leb from i a) (le-leb i to b))
 
 -- no flag byte and no mask byte lies in the ranges
 unfoldable pub sparesFlags : List Range → Bool
@@ -52,8 +45,8 @@ interrupts-kept rs s {x = x} {y = y} k w = any-of-ext _ _ flagPairs (λ p m. any
 -- ---- settling
 
 interrupt-within : Within (range moduleState moduleState ∷ []) interruptSet
-unfolding interruptSet
-interrupt-within i b c = let q = covers-in interruptBit i b c .here in in-range 3 3 i (omega arith) (omega arith)
+unfolding interruptSet inRanges both either
+interrupt-within = within-place (range moduleState moduleState ∷ []) interruptBit refl
 
 module _ (x : Image) where
   pub settled-changes : ChangesOnly interruptSet x (settledImage x)

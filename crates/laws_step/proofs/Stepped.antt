@@ -1,9 +1,10 @@
 -- A step that is done is the event carried out and lower 3.0 settled; one that is refused is nothing. Assumes nothing.
 use mathlib.Core.Path.{_≡_, refl, ap}
-use mathlib.Core.Bool.{Bool, true, false}
-use mathlib.Core.List.{List, _∷_}
+use mathlib.Core.Bool.{Bool, true, false, not}
+use mathlib.Core.List.{List, [], _∷_}
 use Prim.Native.Nat.{ℕ, _<_}
-use borrow.Author.Tests.{lt-ltb}
+use lib.Dec.{ltb}
+use borrow.Author.Tests.{lt-ltb, ltb-true, not-false}
 use Rattle.bits.specs.Choice.{pick}
 use Rattle.bits.proofs.Tests.{split, clash}
 use Rattle.model.specs.Answers.{isDone}
@@ -11,9 +12,9 @@ use Rattle.model.specs.State.{State}
 use Rattle.model.specs.Records.{stageAt, isInProgress}
 use Rattle.model.specs.Work.{early, workEffectBy, workEffectOn, workEffect}
 use Rattle.model.specs.Refusals.{Refusal, refuse, firstOf, noSuchLane, eventRefusals}
-use Rattle.model.specs.Step.{step, eventEffect, doneStep, refusedStep, answeredStep}
+use Rattle.model.specs.Step.{event, step, eventEffect, doneStep, refusedStep, answeredStep}
 use Rattle.model.specs.declared.answer.Answer.{Answer}
-use Rattle.model.specs.declared.answer.Answer.the-variants.{Done}
+use Rattle.model.specs.declared.answer.Answer.the-variants.{Done, NoSuchTarget, NothingOnLane}
 use Rattle.model.specs.declared.event.Call.the-variants.{Work}
 use Rattle.model.specs.declared.event.Event.{Event}
 use Rattle.model.specs.declared.lane.Progress.{Progress}
@@ -58,3 +59,12 @@ pub work-done : (room : ℕ) (s : State) (bytes : List ℕ) (l : ℕ) (p : Progr
     → stepOn room s (Work l) bytes ≡ doneStep Done (workEffectBy (p .verdict) early s (p .group) (p .trigger))
 unfolding step answeredStep eventRefusals firstOf noSuchLane isInProgress isDone eventEffect workEffect workEffectOn pick
 work-done room s bytes l p h i = rw (lt-ltb l 8 h, i, isInProgress, pick, workEffectOn)
+
+-- work is done only on a lane in progress
+pub work-on : (room : ℕ) (s : State) (bytes : List ℕ) (l : ℕ) → stepOn room s (Work l) bytes .answer ≡ Done
+    → (l < 8) × (isInProgress (stageAt (s .working) l) ≡ true)
+unfolding eventRefusals noSuchLane isDone
+work-on room s bytes l d =
+    let idle = not (isInProgress (stageAt (s .working) l)) in
+    let r = not-refused NoSuchTarget (not (ltb l 8)) (refuse NothingOnLane idle ∷ []) refl (none-refused room s (event (Work l) bytes) d) in
+    (ltb-true l 8 (not-false _ (r .0)), not-false _ (not-refused NothingOnLane _ [] refl (r .1) .0))

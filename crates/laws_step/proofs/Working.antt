@@ -31,10 +31,12 @@ use Rattle.model.specs.declared.lane.Trigger.the-variants.{DpInit, Immediate}
 use Rattle.model.specs.declared.lane.Verdict.the-variants.{Pass, Reject}
 use Rattle.model.specs.declared.lane.Progress.{Progress}
 use Rattle.model.specs.declared.lane.Stage.the-variants.{InProgress}
+use Rattle.laws_frames.proofs.Ranges.{coveredBy}
 use Rattle.laws_step.specs.Changes.{ChangesOnly, orIn, interruptSet, statusSet, pendingSet, activeOf}
 use Rattle.laws_step.specs.Told.{Settled, worked, Closed, CopiedLane, pendingThen}
 use Rattle.laws_step.proofs.Frames.{unless, keeps-refl, keeps-put, keeps-then, keeps-left, keeps-right, keeps-each, keeps-lanes, keeps-lane, lanes-written, lanes-bytes}
-use Rattle.laws_step.proofs.Settling.{Within, in-range, sparesFlags, sparesInterrupt, settled-changes, settled-stays, settled-lane, settled-setting}
+use Rattle.laws_step.proofs.Within.{Within, within-lanes}
+use Rattle.laws_step.proofs.Settling.{sparesFlags, sparesInterrupt, settled-changes, settled-stays, settled-lane, settled-setting}
 use Rattle.laws_step.proofs.Stepped.{work-done}
 use Rattle.laws_step.proofs.Places.{in-image}
 use Rattle.laws_step.proofs.Triggering.{status-changes}
@@ -48,8 +50,8 @@ statusRange : List Range
 statusRange = rangeOn page11 202 205 ∷ []
 
 status-within : (c : ℕ → Bool) → Within statusRange (statusSet c)
-unfolding statusRange statusSet
-status-within c i b t = let r = lanes-bytes c (on page11 202) 4 i b refl t in in-range (on page11 202) (on page11 205) i (omega arith) (omega arith)
+unfolding statusRange statusSet coveredBy both either
+status-within c = within-lanes statusRange c (on page11 202) 4 refl refl
 
 status-spares : sparesInterrupt statusRange ≡ true
 unfolding statusRange sparesInterrupt sparesFlags anyOf tab inRanges both either

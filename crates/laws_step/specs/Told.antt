@@ -1,16 +1,16 @@
 -- What is told of single events: the words of the theorems over the step.
 use mathlib.Core.Path.{_≡_}
 use mathlib.Core.Bool.{Bool, true, false, not}
-use mathlib.Core.List.{List}
+use mathlib.Core.List.{List, [], _∷_, _++_}
 use mathlib.Core.Logic.{_⊎_}
 use Prim.Native.Nat.{ℕ, suc, _+_, _-_, _*_, _≤_, _<_}
 use lib.Dec.{eqb, leb, ltb}
-use lib.ListN.{length, getD}
-use Rattle.bits.specs.Choice.{pick, both, either}
+use lib.ListN.{length, getD, take}
+use Rattle.bits.specs.Choice.{pick, onlyIf, both, either}
 use Rattle.bits.specs.Loop.{Among}
-use Rattle.bits.specs.Place.{get, digit}
+use Rattle.bits.specs.Place.{get, digit, covers}
 use Rattle.bits.specs.Sets.{has, nextIn, laneCount, firstIn}
-use Rattle.model.specs.Map.{Image, page11, on, activeSet, outputDisableAt, squelchForceAt, statusAt, stateAt, bankSelect, pageSelect, writable, clearing, FlagPair, flagPairs, pendingAt, flagAt, stateChangedFlag, receivedPower, highAlarmLimit, lowAlarmLimit, highWarningLimit, lowWarningLimit, highAlarmFlag, lowAlarmFlag, highWarningFlag, lowWarningFlag}
+use Rattle.model.specs.Map.{Image, Range, range, rangeOn, inRanges, writableRanges, clearedRanges, moduleState, commandStatus, commandCompleteBit, commandNumber, replyLength, replyCode, messageBody, page11, on, activeSet, outputDisableAt, squelchForceAt, statusAt, stateAt, bankSelect, pageSelect, writable, clearing, FlagPair, flagPairs, pendingAt, flagAt, stateChangedFlag, receivedPower, highAlarmLimit, lowAlarmLimit, highWarningLimit, lowWarningLimit, highAlarmFlag, lowAlarmFlag, highWarningFlag, lowWarningFlag}
 use Rattle.model.specs.PathStates.{codeOf, resting}
 use Rattle.model.specs.Records.{stageAt, isInProgress, heldIn, withVerdict}
 use Rattle.model.specs.View.{viewOf, settingsAt}
@@ -20,9 +20,14 @@ use Rattle.model.specs.Work.{early, isRelease, writtenSettings}
 use Rattle.model.specs.Hardware.{isState, isInitialized}
 use Rattle.model.specs.Flags.{power, settledImage}
 use Rattle.model.specs.Pages.{indexOf}
+use Rattle.model.specs.Commands.{bodyLimit, checkCode, sumOf, lengthOf, replyOf, statusOf, statusCode, commandImage}
+use Rattle.model.specs.Access.{bytesWrittenState, runsCommand}
 use Rattle.model.specs.Step.{event, Stepped, step}
 use Rattle.model.specs.declared.event.Call.{Call}
-use Rattle.model.specs.declared.event.Call.the-variants.{Work}
+use Rattle.model.specs.declared.event.Call.the-variants.{Write, Read, Work, Hardware, Condition, Sample}
+use Rattle.model.specs.declared.command.Command.{Command}
+use Rattle.model.specs.declared.command.CommandStatus.{CommandStatus}
+use Rattle.model.specs.declared.command.CommandStatus.the-variants.{Success, UnknownNumber, WrongCode}
 use Rattle.model.specs.declared.lane.Trigger.{Trigger}
 use Rattle.model.specs.declared.lane.Trigger.the-variants.{DpInit, Immediate}
 use Rattle.model.specs.declared.lane.Verdict.the-variants.{Pass}
@@ -73,9 +78,9 @@ writtenBytes from to i = either (both (writable i) (amid from to i)) (both (amid
 unfoldable pub writeSet : ℕ → ℕ → Working → Working → Bits
 writeSet from to before after = orIn (inBytes (writtenBytes from to)) (statusSet (newlyMarked before after))
 
--- a page that a host may select: 00h, 01h or 02h, or 10h or 11h in bank 0
+-- a page that a host may select: 00h, 01h or 02h, or 10h, 11h or 9Fh in bank 0
 unfoldable pub isSupported : ℕ → ℕ → Bool
-isSupported bank page = either (ltb page 3) (both (eqb bank 0) (either (eqb page 0x10) (eqb page 0x11)))
+isSupported bank page = either (ltb page 3) (both (eqb bank 0) (either (eqb page 0x10) (either (eqb page 0x11) (eqb page 0x9f))))
 
 -- the bank when a write from an address comes to 127: the byte that it has written to 126, or what 126 held where it begins at 127
 unfoldable pub bankAt : Image → ℕ → List ℕ → ℕ
@@ -85,6 +90,57 @@ bankAt before address bytes = pick (leb address bankSelect) (getD bytes (bankSel
 pub record PageRule (bank v : ℕ) (after : Image) : Type 0 where
   pub supported : isSupported bank v ≡ true → (getD after pageSelect 0 ≡ v) × (getD after bankSelect 0 ≡ bank)
   pub otherwise : isSupported bank v ≡ false → (getD after pageSelect 0 ≡ 0) × (getD after bankSelect 0 ≡ 0)
+
+-- ---- command messages
+
+-- how long the reply to a message is: none where it failed
+unfoldable pub lengthAfter : CommandStatus → ℕ
+lengthAfter (Success c) = lengthOf c
+lengthAfter UnknownNumber = 0
+lengthAfter WrongCode = 0
+
+-- its check code: 0 where there is no reply
+unfoldable pub codeAfter : Image → CommandStatus → ℕ
+codeAfter x (Success c) = checkCode (sumOf (lengthOf c) (replyOf x c))
+codeAfter x UnknownNumber = 0
+codeAfter x WrongCode = 0
+
+-- what a message of this status may change: lower 37, lower 8.6, and 9Fh:134, 135 and the reply from 136 on
+unfoldable pub commandSet : CommandStatus → Bits
+commandSet status =
+    orIn (inBytes (λ i. either (eqb i commandStatus) (amid replyLength (messageBody + lengthAfter status) i))) (covers commandCompleteBit)
+
+-- a message has got its status: lower 37 and 8.6 tell it, 134 and 135 its reply's length and code, the reply stands from 136 on, and 128-133 and what lies
+-- past the reply are as they were
+pub record CommandTold (status : CommandStatus) (before after : Image) : Type 0 where
+  pub code : getD after commandStatus 0 ≡ statusCode status
+  pub complete : get after commandCompleteBit ≡ 1
+  pub lengthOfReply : getD after replyLength 0 ≡ lengthAfter status
+  pub codeOfReply : getD after replyCode 0 ≡ codeAfter before status
+  pub reply : (c : Command) → status ≡ Success c → (k : ℕ) → k < lengthOf c → getD after (messageBody + k) 0 ≡ replyOf before c k
+  pub message : (i : ℕ) → commandNumber ≤ i → i < replyLength → getD after i 0 ≡ getD before i 0
+  pub rest : (k : ℕ) → lengthAfter status ≤ k → k < bodyLimit → getD after (messageBody + k) 0 ≡ getD before (messageBody + k) 0
+
+-- the image that holds the bytes of a write, before its end
+abbrev pub storedImage : State → ℕ → ℕ → List ℕ → Image
+storedImage s address count bytes = bytesWrittenState address (take count bytes) s .image
+
+-- .. and after it
+unfoldable pub endedImage : ℕ → ℕ → Image → Image
+endedImage address n x = onlyIf (runsCommand address n x) commandImage x
+
+-- what the end of a write may change: what a command changes, where it runs one
+unfoldable pub endSet : ℕ → ℕ → Image → Bits
+endSet address n x i b = both (runsCommand address n x) (commandSet (statusOf x) i b)
+
+-- a call that runs a command
+unfoldable pub runsOn : Image → Call → Bool
+runsOn x (Write address count) = runsCommand address count x
+runsOn x (Read address count) = false
+runsOn x (Work l) = false
+runsOn x (Hardware l) = false
+runsOn x (Condition flag mask) = false
+runsOn x (Sample l p) = false
 
 -- ---- work steps
 
@@ -166,14 +222,22 @@ pub record PowerTold (l p : ℕ) (before after : Image) : Type 0 where
 
 -- ---- every event
 
+-- every byte that an event may change, commands aside: what hosts write, what reads clear (lower 8-9, 11h:134-153),
+-- lower 3, 126-127, DPState, received power, ConfigStatus, the active settings (11h:215-216 hold none), DPInitPending
+abbrev pub changedRanges : List Range
+changedRanges =
+    writableRanges ++ clearedRanges
+    ++ (range moduleState moduleState ∷ range bankSelect pageSelect ∷ rangeOn page11 128 131 ∷ rangeOn page11 186 201 ∷ rangeOn page11 202 205
+    ∷ rangeOn page11 206 214 ∷ rangeOn page11 217 234 ∷ rangeOn page11 235 235 ∷ [])
+
+-- the length and every byte outside the ranges are as they were
+pub record Kept (changed : List Range) (before after : Image) : Type 0 where
+  pub size : length after ≡ length before
+  pub others : (i : ℕ) → inRanges changed i ≡ false → getD after i 0 ≡ getD before i 0
+
 -- 11h:215-216, which stay 0
 abbrev pub Reserved : ℕ → Type 0
 Reserved i = (i ≡ on page11 215) ⊎ (i ≡ on page11 216)
-
--- the length and 11h:215-216 are as they were
-pub record Kept (before after : Image) : Type 0 where
-  pub size : length after ≡ length before
-  pub reserved : (i : ℕ) → Reserved i → getD after i 0 ≡ getD before i 0
 
 -- lower 3.0 is as it should be: settling it changes nothing
 abbrev pub Settled : Image → Type 0

@@ -16,7 +16,7 @@ use Rattle.bits.specs.declared.Place.{Place}
 use Rattle.bits.proofs.Tests.{both-l, both-r}
 use Rattle.bits.proofs.Loops.{each-two, any-ext}
 use Rattle.bits.proofs.Members.{any-of-none, any-of-ext}
-use Rattle.model.specs.Map.{Image, stateAt, statusAt, pendingAt, flagAt, interruptBit, steppedBit, receivedPower, clearing, activeSet, FlagPair, flagPairs, highAlarmLimit, lowAlarmLimit, highWarningLimit, lowWarningLimit, page10}
+use Rattle.model.specs.Map.{Image, stateAt, statusAt, pendingAt, flagAt, interruptBit, steppedBit, receivedPower, clearing, activeSet, FlagPair, flagPairs, highAlarmLimit, lowAlarmLimit, highWarningLimit, lowWarningLimit, page10, imageLength, page9F, commandCompleteBit, commandStatus, firmwareMajor, firmwareMinor, replyLength, replyCode, messageBody}
 use Rattle.model.specs.Registers.{withStatus, withPending, withPathState, withFlags}
 use Rattle.model.specs.Triggers.{isIgnored}
 use Rattle.model.specs.PathStates.{codeOf}
@@ -24,7 +24,10 @@ use Rattle.model.specs.Work.{pendingAfter}
 use Rattle.model.specs.Hardware.{someBit, toDeinit, toReinit, toDeactivate, signalsOf, nextState, enteredImage, movedImage, movedPathImage}
 use Rattle.model.specs.Flags.{raisedImage, sampledImage, isUnmasked, interrupts, settledImage, conditionImage, power}
 use Rattle.model.specs.Pages.{withPage, pageStart, selectedStart, indexOf, selectedImage}
-use Rattle.model.specs.Access.{clearedImage}
+use Rattle.model.specs.Commands.{lengthOf, replyOf, statusCode, statusOf, withReplyHeader, withReply, repliedImage, completedImage, commandImage}
+use Rattle.model.specs.Access.{runsCommand, clearedImage}
+use Rattle.model.specs.declared.command.CommandStatus.{CommandStatus}
+use Rattle.model.specs.declared.command.CommandStatus.the-variants.{Success, UnknownNumber, WrongCode}
 use Rattle.model.specs.declared.lane.Trigger.{Trigger}
 use Rattle.model.specs.declared.lane.Trigger.the-variants.{DpInit, Immediate}
 use Rattle.model.specs.declared.page.PageStart.{PageStart}
@@ -32,6 +35,8 @@ use Rattle.model.specs.declared.page.PageStart.the-variants.{Unsupported, At}
 use Rattle.model.specs.declared.path.PathState.{PathState}
 use Rattle.laws_frames.proofs.Outside.{get-same}
 use Rattle.laws_frames.proofs.Registers.{pending-same, state-same, word-same, lane-to}
+use Rattle.laws_frames.specs.Frames.{SameWithin}
+use Rattle.laws_frames.proofs.Commands.{sum-ext, status-of-same, reply-same}
 use Rattle.laws_whole.specs.Whole.{activeBitOf, Alike}
 use Rattle.laws_whole.proofs.Agree.{alike-put, alike-set, alike-puts, alike-below, alike-above}
 
@@ -89,6 +94,20 @@ module _ (except : ℕ → ℕ → Bool) where
   alike-cleared i n x y A = each-two (Alike except) (λ k. clearing (i + k)) (λ k z. set z (i + k) 0) (λ k z. set z (i + k) 0) n
       (λ k u z b t. alike-set except u z (i + k) 0) x y A
 
+  alike-reply-header : (n code : ℕ) (x y : Image) → Alike except x y → Alike except (withReplyHeader n code x) (withReplyHeader n code y)
+  unfolding withReplyHeader
+  alike-reply-header n code x y A = alike-set except _ _ replyCode code (alike-set except x y replyLength n A)
+
+  alike-reply : (n : ℕ) (f g : ℕ → ℕ) (x y : Image) → ((k : ℕ) → g k ≡ f k) → Alike except x y → Alike except (withReply n f x) (withReply n g y)
+  unfolding withReply
+  alike-reply n f g x y same A = rw (sum-ext n g f (λ k l. same k))
+      (each-two (Alike except) (λ k. true) (λ k z. set z (messageBody + k) (f k)) (λ k z. set z (messageBody + k) (g k)) n
+      (λ k u z l t B. rw (same k) (alike-set except u z (messageBody + k) (f k) B)) _ _ (alike-reply-header n _ x y A))
+
+  alike-completed : (status : CommandStatus) (x y : Image) → Alike except x y → Alike except (completedImage status x) (completedImage status y)
+  unfolding completedImage
+  alike-completed status x y A = alike-put except _ _ commandCompleteBit 1 (alike-set except x y commandStatus (statusCode status) A)
+
 -- ---- active-setting bits of the lanes of c may differ: everything else that is looked at is the same
 
 -- every flag and every mask lies below the active settings
@@ -131,6 +150,29 @@ module _ (c : ℕ → Bool) (x y : Image) (A : Alike (activeBitOf c) x y) where
   pub alike-settled : Alike (activeBitOf c) (settledImage x) (settledImage y)
   unfolding settledImage
   alike-settled = rw interrupts-same (alike-put (activeBitOf c) x y interruptBit (pick (interrupts x) 0 1) A)
+
+  -- a command looks at page 9Fh and at lower 39 and 40
+  page-9f-same : SameWithin page9F imageLength x y
+  page-9f-same i a b = sym (alike-above c x y A i (omega arith))
+
+  alike-replied : (status : CommandStatus) → Alike (activeBitOf c) (repliedImage status x) (repliedImage status y)
+  unfolding repliedImage
+  alike-replied (Success m) = alike-reply (activeBitOf c) (lengthOf m) (replyOf x m) (replyOf y m) x y
+      (λ k. reply-same x y m k (low firmwareMajor (omega arith)) (low firmwareMinor (omega arith))) A
+  alike-replied UnknownNumber = alike-reply-header (activeBitOf c) 0 0 x y A
+  alike-replied WrongCode = alike-reply-header (activeBitOf c) 0 0 x y A
+
+  alike-command : Alike (activeBitOf c) (commandImage x) (commandImage y)
+  unfolding commandImage
+  alike-command = rw (status-of-same x y page-9f-same) (alike-completed (activeBitOf c) (statusOf x) _ _ (alike-replied (statusOf x)))
+
+  runs-same : (address n : ℕ) → runsCommand address n y ≡ runsCommand address n x
+  unfolding runsCommand selectedStart
+  runs-same address n = rw (low 126 (omega arith), low 127 (omega arith))
+
+  pub alike-ended : (address n : ℕ)
+      → Alike (activeBitOf c) (onlyIf (runsCommand address n x) commandImage x) (onlyIf (runsCommand address n y) commandImage y)
+  alike-ended address n = rw (runs-same address n) (alike-only (activeBitOf c) (runsCommand address n x) commandImage x y (λ B. alike-command) A)
 
   limit-same : (at : ℕ) → at + 2 ≤ activeSet → power y at ≡ power x at
   limit-same at h = word-same 2 at x y (λ i a b. low i (omega arith))

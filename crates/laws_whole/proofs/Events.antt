@@ -23,7 +23,7 @@ use Rattle.model.specs.Work.{early, late}
 use Rattle.model.specs.Hardware.{hardwareImage}
 use Rattle.model.specs.Flags.{isConditionFlag, settledImage}
 use Rattle.model.specs.Pages.{indexOf}
-use Rattle.model.specs.Access.{shownByte, takenBytes}
+use Rattle.model.specs.Access.{endedState, shownByte, takenBytes}
 use Rattle.model.specs.Refusals.{refuse, firstOf, noSuchLane, isBusy, isUnused, eventRefusals}
 use Rattle.model.specs.Step.{readEffect, eventEffect}
 use Rattle.model.specs.declared.answer.Answer.the-variants.{Busy, NoSuchTarget}
@@ -37,8 +37,8 @@ use Rattle.laws_whole.proofs.Agree.{of-none, none-of}
 use Rattle.laws_whole.proofs.Sees.{activeOf}
 use Rattle.laws_sound.proofs.Stranger.{idle-passing}
 use Rattle.laws_whole.proofs.Pairs.{passed, passing-busy, veiled, Pair, Paired, same-active, same-lanes}
-use Rattle.laws_whole.proofs.Kept.{changed, waits-keeps, keeps-settled, keeps-sample, keeps-condition, keeps-hardware, keeps-cleared}
-use Rattle.laws_whole.proofs.Changes.{alike-condition, alike-cleared, alike-settled, alike-sampled, alike-moved, place-same, state-read}
+use Rattle.laws_whole.proofs.Kept.{keeps-ended, changed, waits-keeps, keeps-settled, keeps-sample, keeps-condition, keeps-hardware, keeps-cleared}
+use Rattle.laws_whole.proofs.Changes.{alike-ended, alike-condition, alike-cleared, alike-settled, alike-sampled, alike-moved, place-same, state-read}
 use Rattle.laws_sound.proofs.Quiet.{Well}
 use Rattle.laws_whole.proofs.Bytes.{bytes-pair}
 use Rattle.laws_whole.proofs.Working.{Carries, leaves-pair, work-carries}
@@ -56,6 +56,18 @@ settled-pair s a Q = record {
     size = keeps-settled (s .image) .size ∙ Q .pair .size;
     alike = alike-settled (passed (s .working)) (s .image) (a .image) (Q .pair .alike);
     waits = waits-keeps (a .image) _ (s .working) (keeps-settled (a .image)) (Q .pair .waits);
+  };
+}
+
+-- the end of a write in both
+ended-pair : (address n : ℕ) (s a : State) → Paired s a → Paired (endedState address n s) (endedState address n a)
+unfolding endedState
+ended-pair address n s a Q = record {
+  working = Q .working;
+  pair = record {
+    size = keeps-ended address n (s .image) .size ∙ Q .pair .size;
+    alike = alike-ended (passed (s .working)) (s .image) (a .image) (Q .pair .alike) address n;
+    waits = waits-keeps (a .image) _ (s .working) (keeps-ended address n (a .image)) (Q .pair .waits);
   };
 }
 
@@ -133,7 +145,7 @@ module _ (x y : Image) (w : Working) (two : ℕ) (T : Well two (stateWith x w)) 
   pub carried-pair : (room : ℕ) (bytes : List ℕ) (c : Call) → isDone (firstOf (eventRefusals room (stateWith x w) c)) ≡ true
       → Carries (hiddenRead (stateWith x w) c) (eventEffect early (stateWith x w) bytes c) (eventEffect late (stateWith y w) bytes c)
   unfolding eventEffect eventRefusals isDone
-  carried-pair room bytes (Write address count) d = leaves-pair _ (bytes-pair (take count bytes) address x y w two T P)
+  carried-pair room bytes (Write address count) d = leaves-pair _ (ended-pair address count _ _ (bytes-pair (take count bytes) address x y w two T P))
   carried-pair room bytes (Read address count) d = read-carries x y w (T .sound) P address count
   carried-pair room bytes (Work l) d =
       work-carries x y w (T .sound) P _ l (lane-below l (not-refused (refuse NoSuchTarget (noSuchLane l)) _ refl d .0))

@@ -5,6 +5,7 @@ use mathlib.Core.Logic.{inl, inr}
 use Prim.Native.Nat.{ℕ, _+_, _≤_, _<_}
 use native.Mathlib.Omega.{arith}
 use lib.ListN.{length, set}
+use Rattle.bits.specs.Choice.{onlyIf}
 use Rattle.bits.specs.Sets.{has}
 use Rattle.model.specs.Map.{Image, writable, activeSet, setLength, page10, pendingByte}
 use Rattle.model.specs.Registers.{withStatus, withPending}
@@ -12,7 +13,8 @@ use Rattle.model.specs.Work.{pendingAfter}
 use Rattle.model.specs.Hardware.{hardwareImage}
 use Rattle.model.specs.Flags.{isConditionFlag, conditionImage, sampledImage, settledImage}
 use Rattle.model.specs.Pages.{selectedImage}
-use Rattle.model.specs.Access.{clearedImage}
+use Rattle.model.specs.Commands.{commandImage}
+use Rattle.model.specs.Access.{runsCommand, clearedImage}
 use Rattle.model.specs.declared.lane.Trigger.{Trigger}
 use Rattle.model.specs.declared.lane.Trigger.the-variants.{DpInit, Immediate}
 use Rattle.model.specs.declared.lane.Working.{Working}
@@ -20,7 +22,7 @@ use Rattle.model.specs.State.{stateWith}
 use Rattle.laws_whole.specs.Whole.{Alike}
 use Rattle.laws_frames.proofs.Registers.{advertised-below, settings-same, applications-same}
 use Rattle.laws_frames.proofs.Changes.{status-outside, pending-outside, off-advertised, hardware-off}
-use Rattle.laws_sound.proofs.Quiet.{Quiet, advertised-kept, lane-kept, set-quiet, selected-quiet, settled-quiet, sampled-quiet, condition-quiet, cleared-quiet}
+use Rattle.laws_sound.proofs.Quiet.{Quiet, advertised-kept, lane-kept, set-quiet, selected-quiet, settled-quiet, sampled-quiet, condition-quiet, cleared-quiet, command-quiet}
 use Rattle.laws_frames.specs.Frames.{SameOutside, SameWithin, SameAdvertised, SameOffPath}
 use Rattle.laws_whole.proofs.Pairs.{veiled, Waits, Pair, Paired}
 
@@ -76,6 +78,13 @@ keeps-hardware l y = let s : SameOffPath y (hardwareImage y l) = hardware-off y 
   active = λ i a b. s .byte i (inr (omega arith)) (inr (omega arith)) (inl (omega arith));
 }
 
+-- ---- a change that is made or not
+
+keeps-only : (t : Bool) (f : Image → Image) (y : Image) → Keeps y (f y) → Keeps y (onlyIf t f y)
+unfolding onlyIf
+keeps-only true f y K = K
+keeps-only false f y K = keeps-refl y
+
 -- ---- a change of bytes that soundness does not look at
 
 keeps-quiet : {y z : Image} → Quiet y z → Keeps y z
@@ -102,3 +111,6 @@ keeps-condition flag mask y e = keeps-quiet (condition-quiet flag mask y e)
 
 pub keeps-sample : (l p : ℕ) (y : Image) → l < 8 → Keeps y (sampledImage l p y)
 keeps-sample l p y b = keeps-quiet (sampled-quiet l p y b)
+
+pub keeps-ended : (address n : ℕ) (y : Image) → Keeps y (onlyIf (runsCommand address n y) commandImage y)
+keeps-ended address n y = keeps-only (runsCommand address n y) commandImage y (keeps-quiet (command-quiet y))

@@ -2,16 +2,12 @@
 use mathlib.Core.Path.{_≡_, refl, sym, ap, _∙_}
 use mathlib.Core.Bool.{Bool, true, false, _||_}
 use Rattle.bits.specs.Choice.{either}
+use Rattle.bits.proofs.Tests.{either-assoc, either-none}
 
 pub either-or : (a b r : Bool) → either (a || b) r ≡ either a (either b r)
 unfolding either
 either-or true b r = refl
 either-or false b r = refl
-
-either-false : (a : Bool) → either a false ≡ a
-unfolding either
-either-false true = refl
-either-false false = refl
 
 -- a row of tests joined by `|` in code, and as specs nest it: they agree before any rest of the row
 pub record Row (code : Bool) (nested : Bool → Bool) : Type 0 where
@@ -25,4 +21,30 @@ pub then-test : {row a b : Bool} {f : Bool → Bool} → Row row f → a ≡ b �
 then-test {row} {a} {b} {f} r e = record { agree = λ rest. either-or row a rest ∙ r .agree (either a rest) ∙ ap (λ t. f (either t rest)) e }
 
 pub all-tests : {row : Bool} {f : Bool → Bool} → Row row f → row ≡ f false
-all-tests {row} r = sym (either-false row) ∙ r .agree false
+all-tests {row} r = sym (either-none row) ∙ r .agree false
+
+-- ---- tests in another order
+
+either-comm : (a b : Bool) → either a b ≡ either b a
+unfolding either
+either-comm true true = refl
+either-comm true false = refl
+either-comm false true = refl
+either-comm false false = refl
+
+-- a test goes past the next one
+past : (p a r : Bool) → either p (either a r) ≡ either a (either p r)
+past p a r = sym (either-assoc p a r) ∙ ap (λ t. either t r) (either-comm p a) ∙ either-assoc a p r
+
+-- four tests from the last to the first
+last-first : (a b c d : Bool) → either a (either b (either c (either d false))) ≡ either d (either c (either b (either a false)))
+last-first a b c d = rw (either-none d, either-none a)
+    (either-comm a (either b (either c d)) ∙ ap (λ t. either t a) (either-comm b (either c d)) ∙ ap (λ t. either (either t b) a) (either-comm c d)
+    ∙ either-assoc (either d c) b a ∙ either-assoc d c (either b a))
+
+-- the first of eight tests goes to the end, and the three that stood there turn round
+pub reordered : (p a b c d g f e : Bool)
+    → either p (either a (either b (either c (either d (either g (either f (either e false)))))))
+    ≡ either a (either b (either c (either d (either e (either f (either g (either p false)))))))
+reordered p a b c d g f e =
+    past p a _ ∙ ap (either a) (past p b _ ∙ ap (either b) (past p c _ ∙ ap (either c) (past p d _ ∙ ap (either d) (last-first p g f e))))

@@ -5,8 +5,8 @@ ghost use lib.Dec.{leb};
 ghost use Rattle.bits.specs.Choice.{both};
 ghost use Rattle.model.specs.Map.{imageLength, pageLength, on, writable, clearing, kept};
 
-// The image: lower memory, then five pages; a page's addresses start at UPPER.
-pub const IMAGE_LENGTH: usize = 768;
+// The image: lower memory, then six pages; a page's addresses start at UPPER.
+pub const IMAGE_LENGTH: usize = 896;
 
 pub const PAGE_LENGTH: usize = 128;
 
@@ -23,8 +23,12 @@ pub const PAGE_10: usize = 512;
 
 pub const PAGE_11: usize = 640;
 
-// Lower 3: the module's state, with InterruptDeasserted in bit 0.
+pub const PAGE_9F: usize = 768;
+
+// Lower 3: the module's state, with InterruptDeasserted in bit 0. Lower 8: its own flags.
 pub const MODULE_STATE: usize = 3;
+
+pub const MODULE_FLAGS: usize = 8;
 
 // Page 02h: the limits of received power, two bytes each, in 0.1 µW.
 pub const HIGH_ALARM: usize = PAGE_02 + (192 - 128);
@@ -82,17 +86,18 @@ pub fn on_page(i: usize, page: usize, from: u8, to: u8) -> bool
     within(i, on(page, from), on(page, to))
 }
 
-// Whether a byte keeps what a host writes to it.
+// Whether a byte keeps what a host writes to it. The compiler asks the last test first, so the staged settings stand last.
 pub fn writable(i: usize) -> bool
     ensures { λ r. ⌜ r ≡ writable i ⌝ }
 {
-    within(i, 31, 36)
+    on_page(i, PAGE_9F, 128, 255)
+        | within(i, 31, 36)
         | within(i, 126, 126)
         | on_page(i, PAGE_10, 128, 132)
         | on_page(i, PAGE_10, 137, 139)
-        | on_page(i, PAGE_10, 145, 153)
-        | on_page(i, PAGE_10, 156, 173)
         | on_page(i, PAGE_10, 213, 232)
+        | on_page(i, PAGE_10, 156, 173)
+        | on_page(i, PAGE_10, 145, 153)
 }
 
 // Whether a read clears a byte.

@@ -9,7 +9,7 @@ use lib.ListN.{length, getD}
 use lib.Seq.{ext-getD}
 use borrow.Author.Tests.{leb-true, ltb-true}
 use Rattle.bits.specs.Choice.{pick, both}
-use Rattle.bits.proofs.Tests.{both-l, both-r}
+use Rattle.bits.proofs.Tests.{split, both-l, both-r}
 use Rattle.model.specs.Map.{imageLength}
 use Rattle.model.specs.File.{Edition, firstForms, firstEdition, laterEditions, editionAmong, isRecord, firstBytes, laidOut}
 
@@ -45,8 +45,8 @@ edition-fits n = leb-true _ _ (both-r _ _ (carries n))
 
 -- every edition has the first one's forms of records
 forms-same : (n : ℕ) → editionAmong laterEditions n .forms ≡ firstForms
-unfolding editionAmong
-forms-same n = refl
+unfolding editionAmong pick
+forms-same n = split (eqb n 2) (λ e. rw (e, pick)) (λ e. rw (e, pick))
 
 pub records-alike : (n : ℕ) (bytes : List ℕ) → isRecord (editionAmong laterEditions n) bytes ≡ isRecord firstEdition bytes
 unfolding isRecord

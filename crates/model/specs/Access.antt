@@ -2,15 +2,16 @@
 use Prim.Native.Nat.{suc, _+_}
 use mathlib.Core.Bool.{Bool}
 use mathlib.Core.List.{[], _∷_}
-use lib.Dec.{eqb, ltb}
+use lib.Dec.{eqb, leb, ltb}
 use lib.ListN.{getD, set}
-use Rattle.bits.specs.Choice.{pick, either}
+use Rattle.bits.specs.Choice.{pick, onlyIf, both, either}
 use Rattle.bits.specs.Loop.{each, tab}
 use Rattle.model.specs.Numbers.{Byte, Bytes, Count, Index, Address}
-use Rattle.model.specs.Map.{Image, pageSelect, applyDPInit, applyImmediate, stagedSet0, writable, clearing}
+use Rattle.model.specs.Map.{Image, page9F, runAddress, pageSelect, applyDPInit, applyImmediate, stagedSet0, writable, clearing}
 use Rattle.model.specs.State.{State, withImage}
 use Rattle.model.specs.Triggers.{triggeredState}
-use Rattle.model.specs.Pages.{indexOf, selectedImage}
+use Rattle.model.specs.Pages.{selectedStart, indexOf, selectedImage}
+use Rattle.model.specs.Commands.{commandImage}
 use Rattle.model.specs.declared.lane.Trigger.the-variants.{DpInit, Immediate}
 
 -- ---- writing
@@ -31,6 +32,20 @@ byteWrittenState address v s = storedState (indexOf (s .image) address) v s
 unfoldable pub bytesWrittenState : Address → Bytes → State → State
 bytesWrittenState address [] s = s
 bytesWrittenState address (v ∷ vs) s = bytesWrittenState (suc address) vs (byteWrittenState address v s)
+
+-- ---- the end of a write
+
+-- a write of n bytes from an address writes an address
+unfoldable pub writes : Address → Count → Address → Bool
+writes address n a = both (leb address a) (ltb a (address + n))
+
+-- it runs a command: it writes 129 while page 9Fh is selected (02 Req 01)
+unfoldable pub runsCommand : Address → Count → Image → Bool
+runsCommand address n x = both (writes address n runAddress) (eqb (selectedStart x) page9F)
+
+-- what a write does after its last byte
+unfoldable pub endedState : Address → Count → State → State
+endedState address n s = withImage s (onlyIf (runsCommand address n (s .image)) commandImage (s .image))
 
 -- ---- reading
 

@@ -77,9 +77,9 @@ firstForms =
 abbrev pub firstEdition : Edition
 firstEdition = record { number = 1; imageBytes = 768; forms = firstForms }
 
--- every edition from the second on
+-- every edition from the second on: the second carries page 9Fh (02 Req 01)
 abbrev pub laterEditions : List Edition
-laterEditions = []
+laterEditions = record { number = 2; imageBytes = 896; forms = firstForms } ∷ []
 
 -- the edition of a number; the first where no later one has it
 unfoldable pub editionAmong : List Edition → Byte → Edition

@@ -2,14 +2,14 @@
 --
 --   01 "The module we ship"          Numbers, Map, Statuses, PathStates, Records, State, Registers; start: Start
 --   01 "When the desk says no"       Answers, Refusals; paths: View; sound: Sound
---   01 "Host accesses"               Pages, Access; lower 3.0: Flags
+--   01 "Host accesses"               Pages, Access; lower 3.0: Flags; command messages (02 Req 01): Commands
 --   01 "Triggers and verdicts"       Applications, View, Groups, Verdicts, Triggers
 --   01 "Work step", "ConfigStatus"   Effect, Work, Statuses
 --   01 "Paths and flags"             PathStates, Hardware, Flags
 --   01 "The night file"              File, Text, Night; in pieces (02 Req 09): Stream; the list of events: Outcome
 --   01 "How tightly each answer is held", and the runs that demand 3 compares   Step, Outcome
 --
--- The types of lanes, paths, events, answers and files are those of the code, in ../src; a file names them as declared.FILE.TYPE. An `abbrev` is a short name that
+-- The types of lanes, paths, commands, events, answers and files are those of the code, in ../src; a file names them as declared.FILE.TYPE. An `abbrev` is a short name that
 -- is the same as what it stands for; an `unfoldable` definition stays shut in proofs until one says that it is to be unfolded. Neither changes what is said.
 pub mod Numbers
 pub mod Map
@@ -29,6 +29,7 @@ pub mod Work
 pub mod Hardware
 pub mod Flags
 pub mod Pages
+pub mod Commands
 pub mod Access
 pub mod Start
 pub mod Sound

@@ -13,12 +13,12 @@ use Rattle.bits.specs.Sets.{Lane}
 use Rattle.model.specs.Numbers.{Byte, Bytes, Count, Index, Address, SettingIndex}
 use Rattle.bits.specs.declared.Place.{Place}
 
--- the lent image (01): lower memory and five pages of 128 bytes
+-- the lent image (01, 02 Req 01): lower memory and six pages of 128 bytes
 abbrev pub Image : Type 0
 Image = Bytes
 
 abbrev pub imageLength : Count
-imageLength = 768
+imageLength = 896
 
 -- the bytes of lower memory, and of a page
 abbrev pub pageLength : Count
@@ -40,6 +40,9 @@ page10 = 512
 abbrev pub page11 : Index
 page11 = 640
 
+abbrev pub page9F : Index
+page9F = 768
+
 -- the index in the image of address a, 128 to 255, of a page
 abbrev pub on : Index → Address → Index
 on page a = page + (a - 128)
@@ -60,6 +63,28 @@ moduleState = 3
 
 abbrev pub interruptBit : Place
 interruptBit = record { byte = moduleState; shift = 0; width = 1 }
+
+-- 8: the module's own flags, and 31: their masks (002 tables 8-9 and 8-12)
+abbrev pub moduleFlags : Index
+moduleFlags = 8
+
+abbrev pub moduleMasks : Index
+moduleMasks = 31
+
+-- 8.6 CdbCmdCompleteFlag1: a command message was carried out or failed
+abbrev pub commandCompleteBit : Place
+commandCompleteBit = record { byte = moduleFlags; shift = 6; width = 1 }
+
+-- 37 CdbStatus1: what became of the last command message (002 table 8-13)
+abbrev pub commandStatus : Index
+commandStatus = 37
+
+-- 39, 40: the version of the firmware that runs, major and minor (002 table 8-15)
+abbrev pub firmwareMajor : Index
+firmwareMajor = 39
+
+abbrev pub firmwareMinor : Index
+firmwareMinor = 40
 
 -- 86 on: the descriptors of Applications 1 to 8, four bytes each (002 table 8-23)
 abbrev pub descriptors : Index
@@ -160,9 +185,13 @@ pub record FlagPair : Type 0 where
   pub mask : Index
   pub bits : Byte
 
--- the flags that may pull the interrupt, with their masks: every bit of 11h:134-153 (01 "Host accesses")
+-- lower 8.6 and its mask 31.6, no other bit of the two (02 Req 01)
+abbrev pub modulePair : FlagPair
+modulePair = record { flag = moduleFlags; mask = moduleMasks; bits = 0x40 }
+
+-- the flags that may pull the interrupt, with their masks: those of the module, and every bit of 11h:134-153 (01 "Host accesses")
 abbrev pub flagPairs : List FlagPair
-flagPairs = tab flagByteCount (λ k. record { flag = flagBytes + k; mask = flagMasks + k; bits = 0xff })
+flagPairs = modulePair ∷ tab flagByteCount (λ k. record { flag = flagBytes + k; mask = flagMasks + k; bits = 0xff })
 
 -- a lane's bit of the flag byte at an address of page 11h
 abbrev pub flagAt : Address → Lane → Place
@@ -205,6 +234,37 @@ pendingByte = on page11 235
 
 abbrev pub pendingAt : Lane → Place
 pendingAt l = laneField pendingByte 1 l
+
+-- ---- page 9Fh: command messages (002 section 8.23, tables 8-178 to 8-180)
+
+-- 128-129: the command's number, the high byte first; a write of its low byte runs the command
+abbrev pub commandNumber : Index
+commandNumber = on page9F 128
+
+abbrev pub runAddress : Address
+runAddress = 129
+
+-- 132: how many bytes of the body are the command's
+abbrev pub bodyLength : Index
+bodyLength = on page9F 132
+
+-- 133: the check code of the message
+abbrev pub messageCode : Index
+messageCode = on page9F 133
+
+-- 134, 135: how long the reply is, and its check code
+abbrev pub replyLength : Index
+replyLength = on page9F 134
+
+abbrev pub replyCode : Index
+replyCode = on page9F 135
+
+-- 136-255: the body of a message, and then of its reply
+abbrev pub bodyAddress : Address
+bodyAddress = 136
+
+abbrev pub messageBody : Index
+messageBody = on page9F bodyAddress
 
 -- ---- the settings of a set
 
@@ -268,7 +328,7 @@ inRanges (r ∷ rs) i = either (both (leb (r .from) i) (leb i (r .to))) (inRange
 abbrev pub writableRanges : List Range
 writableRanges =
     range 31 36 ∷ range bankSelect bankSelect ∷ rangeOn page10 128 132 ∷ rangeOn page10 137 139 ∷ rangeOn page10 145 153
-    ∷ rangeOn page10 156 173 ∷ rangeOn page10 213 232 ∷ []
+    ∷ rangeOn page10 156 173 ∷ rangeOn page10 213 232 ∷ rangeOn page9F 128 255 ∷ []
 
 unfoldable pub writable : Index → Bool
 writable = inRanges writableRanges

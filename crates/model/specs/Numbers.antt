@@ -56,6 +56,10 @@ SettingIndex = ℕ
 abbrev pub RecordIndex : Type 0
 RecordIndex = ℕ
 
+-- a command message's number
+abbrev pub CommandNumber : Type 0
+CommandNumber = ℕ
+
 -- an answer's number in the refusal list
 abbrev pub AnswerNumber : Type 0
 AnswerNumber = ℕ

@@ -6,7 +6,7 @@ use lib.Dec.{eqb, ltb}
 use lib.ListN.{getD, set}
 use Rattle.bits.specs.Choice.{pick, both, implies}
 use Rattle.model.specs.Numbers.{Index, Address, PageNumber, Bank}
-use Rattle.model.specs.Map.{Image, page00, page01, page02, page10, page11, bankSelect, pageSelect}
+use Rattle.model.specs.Map.{Image, page00, page01, page02, page10, page11, page9F, bankSelect, pageSelect}
 use Rattle.model.specs.declared.page.PageStart.{PageStart}
 use Rattle.model.specs.declared.page.PageStart.the-variants.{Unsupported, At}
 
@@ -23,6 +23,7 @@ pages =
     ∷ record { number = 0x02; banked = false; start = page02 }
     ∷ record { number = 0x10; banked = true; start = page10 }
     ∷ record { number = 0x11; banked = true; start = page11 }
+    ∷ record { number = 0x9f; banked = true; start = page9F }
     ∷ []
 
 -- the page of a number, in a bank

@@ -11,7 +11,7 @@ use Rattle.model.specs.Work.{Mode, workEffect}
 use Rattle.model.specs.Hardware.{hardwareImage}
 use Rattle.model.specs.Flags.{conditionImage, sampledImage, settledImage}
 use Rattle.model.specs.Pages.{indexOf}
-use Rattle.model.specs.Access.{bytesWrittenState, takenBytes, clearedImage}
+use Rattle.model.specs.Access.{bytesWrittenState, endedState, takenBytes, clearedImage}
 use Rattle.model.specs.Refusals.{firstOf, eventRefusals}
 use Rattle.model.specs.declared.answer.Answer.{Answer}
 use Rattle.model.specs.declared.event.Call.{Call}
@@ -28,7 +28,7 @@ readEffect s i n = record { state = withImage s (clearedImage (s .image) i n); b
 
 -- what an event does that is not refused
 unfoldable pub eventEffect : Mode → State → Bytes → Call → Effect
-eventEffect mode s bytes (Write address count) = onState (bytesWrittenState address (take count bytes) s)
+eventEffect mode s bytes (Write address count) = onState (endedState address count (bytesWrittenState address (take count bytes) s))
 eventEffect mode s bytes (Read address count) = readEffect s (indexOf (s .image) address) count
 eventEffect mode s bytes (Work l) = workEffect mode s l
 eventEffect mode s bytes (Hardware l) = onState (withImage s (hardwareImage (s .image) l))

@@ -1,6 +1,7 @@
-// What the module is: the types of its lanes, paths, pages, events, answers and files. The definitions that say what it does are in specs/.
+// What the module is: the types of its lanes, paths, pages, commands, events, answers and files. The definitions that say what it does are in specs/.
 pub mod answer;
 pub mod application;
+pub mod command;
 pub mod event;
 pub mod file;
 pub mod lane;

@@ -21,6 +21,10 @@ const FIRST_EDITION: u8 = 1;
 
 const FIRST_IMAGE_BYTES: usize = 768;
 
+const SECOND_EDITION: u8 = 2;
+
+const SECOND_IMAGE_BYTES: usize = 896;
+
 // The header: its two letters, and where its numbers and the image lie.
 const LETTER_W: u8 = 0x57;
 
@@ -62,6 +66,10 @@ fn edition_of(number: u8) -> Edition
     ensures { λ r. ⌜ (r .number ≡ editionAmong laterEditions number .number) × (r .«image_bytes» ≡ editionAmong laterEditions number .imageBytes) ⌝ }
 {
     match number {
+        SECOND_EDITION => Edition {
+            number: SECOND_EDITION,
+            image_bytes: SECOND_IMAGE_BYTES,
+        },
         _ => Edition {
             number: FIRST_EDITION,
             image_bytes: FIRST_IMAGE_BYTES,

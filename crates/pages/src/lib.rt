@@ -11,7 +11,7 @@ const BANK_SELECT: usize = 126;
 
 pub const PAGE_SELECT: usize = 127;
 
-// Where a page starts in the image: 10h and 11h only in bank 0.
+// Where a page starts in the image: 10h, 11h and 9Fh only in bank 0.
 fn page_start(bank: u8, page: u8) -> PageStart
     ensures { λ r. ⌜ r ≡ pageStart bank page ⌝ }
 {
@@ -29,6 +29,9 @@ fn page_start(bank: u8, page: u8) -> PageStart
     }
     if (page == 0x11) & (bank == 0) {
         return PageStart::At(map::PAGE_11);
+    }
+    if (page == 0x9f) & (bank == 0) {
+        return PageStart::At(map::PAGE_9F);
     }
     PageStart::Unsupported
 }

@@ -1,8 +1,14 @@
-// The host's accesses, on a module whose image has its length: the refusals 4 and 5, then the access, then lower 3.0.
+// The host's accesses, on a module whose image has its length: the refusals 4 and 5, then the access and the command that it runs, then lower 3.0.
 ghost use mathlib.Core.Path.{_≡_};
 ghost use mathlib.Core.List.{[]};
+ghost use Prim.Native.Nat.{_+_, _≤_};
 ghost use lib.ListN.{length};
-ghost use Rattle.contracts.specs.Contracts.{IsOutcome};
+ghost use Rattle.bits.specs.Choice.{onlyIf};
+ghost use Rattle.contracts.specs.Contracts.{IsState, IsOutcome};
+ghost use Rattle.step_host.specs.Settled.{settledState};
+ghost use Rattle.model.specs.Access.{bytesWrittenState, runsCommand, endedState, halfEnd};
+ghost use Rattle.model.specs.Commands.{commandImage};
+ghost use Rattle.model.specs.Flags.{settledImage};
 ghost use Rattle.model.specs.State.{stateWith};
 ghost use Rattle.model.specs.Outcome.{stepOutcome};
 ghost use Rattle.model.specs.Step.{event, step};
@@ -14,6 +20,25 @@ use contracts::Returned;
 use model::answer::Answer;
 use model::lane::Working;
 
+// The end of an access that has written so many bytes from an address on, none where it was a read: the command that it runs, then lower 3.0.
+fn end_access(image: &mut [u8], address: u8, written: usize)
+    requires { ⌜ length (now image) ≡ imageLength ⌝ }
+    ensures { λ _. ⌜ now (image .exit) ≡ settledImage (onlyIf (runsCommand address written (now (image .entry))) commandImage (now (image .entry))) ⌝ }
+{
+    commands::end_write(image, address, written);
+    flags_interrupt::settle(image)
+}
+
+// A write that is not refused: its bytes, then its end.
+fn write_bytes(image: &mut [u8], w: Working, address: u8, bytes: &[u8]) -> Working
+    requires { ⌜ (length (now image) ≡ imageLength) × (address + length (now bytes) ≤ halfEnd address) ⌝ }
+    ensures { λ r. ⌜ IsState (settledState (endedState address (length (now (bytes .entry))) (bytesWrittenState address (now (bytes .entry)) (stateWith (now (image .entry)) w)))) (now (image .exit)) r ⌝ }
+{
+    let written = access_writes::write(image, w, address, bytes);
+    end_access(image, address, bytes.len());
+    written
+}
+
 // A host write of count of the bytes that are given.
 pub fn write(image: &mut [u8], w: Working, address: u8, count: u8, bytes: [u8; 8]) -> Returned
     requires { ⌜ length (now image) ≡ imageLength ⌝ }
@@ -23,8 +48,7 @@ pub fn write(image: &mut [u8], w: Working, address: u8, count: u8, bytes: [u8; 8
     if access_limits::bad_access(access_limits::WRITE_LIMIT, address, n) {
         return contracts::reply(Answer::BadAccess, w);
     }
-    let written = access_writes::write(image, w, address, &bytes[..n]);
-    flags_interrupt::settle(image);
+    let written = write_bytes(image, w, address, &bytes[..n]);
     contracts::reply(Answer::Done, written)
 }
 
@@ -41,6 +65,6 @@ pub fn read(image: &mut [u8], w: Working, address: u8, count: u8, buffer: &mut [
         return contracts::reply(Answer::ShortBuffer, w);
     }
     access_reads::read(image, address, count, buffer);
-    flags_interrupt::settle(image);
+    end_access(image, address, 0);
     contracts::reply(Answer::Done, w)
 }

@@ -15,7 +15,7 @@ const PIECE: usize = 65536;
 
 const OUTPUT: usize = 65536;
 
-// More turns than an input can take that is still being answered: 784 + 12 * 4,294,967,295 bytes, one a turn at least.
+// More turns than an input can take that is still being answered: 912 + 12 * 4,294,967,295 bytes, one a turn at least.
 const TURNS: u64 = 68719476736;
 
 // The digits of an argument, and one more to notice a longer one.

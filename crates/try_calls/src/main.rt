@@ -23,40 +23,40 @@ fn say_answer(label: &[u8], left: Returned) {
 }
 
 // The calls on an image of the module's length.
-fn start(image: &mut [u8; 768]) -> Working {
+fn start(image: &mut [u8; 896]) -> Working {
     let left = registers::start(image);
     let w = left.working;
     w
 }
 
-fn write(image: &mut [u8; 768], w: Working, address: u8, count: u8, bytes: [u8; 8]) -> Working {
+fn write(image: &mut [u8; 896], w: Working, address: u8, count: u8, bytes: [u8; 8]) -> Working {
     let left = registers::write(image, w, address, count, bytes);
     let next = left.working;
     next
 }
 
-fn work(image: &mut [u8; 768], w: Working, lane: u8) -> Returned {
+fn work(image: &mut [u8; 896], w: Working, lane: u8) -> Returned {
     registers::work(image, w, lane)
 }
 
-fn hardware(image: &mut [u8; 768], w: Working, lane: u8) -> Returned {
+fn hardware(image: &mut [u8; 896], w: Working, lane: u8) -> Returned {
     registers::hardware(image, w, lane)
 }
 
-fn sample(image: &mut [u8; 768], w: Working) -> Returned {
+fn sample(image: &mut [u8; 896], w: Working) -> Returned {
     registers::sample(image, w, 0, 1)
 }
 
-fn condition(image: &mut [u8; 768], w: Working) -> Returned {
+fn condition(image: &mut [u8; 896], w: Working) -> Returned {
     registers::condition(image, w, 136, 0x0f)
 }
 
 // Reads of the four bytes from 143 on, into a buffer that is too short and one that is longer.
-fn read_into_3(image: &mut [u8; 768], w: Working, buffer: &mut [u8; 3]) -> Returned {
+fn read_into_3(image: &mut [u8; 896], w: Working, buffer: &mut [u8; 3]) -> Returned {
     registers::read(image, w, 143, 4, buffer)
 }
 
-fn read_into_6(image: &mut [u8; 768], w: Working, buffer: &mut [u8; 6]) -> Returned {
+fn read_into_6(image: &mut [u8; 896], w: Working, buffer: &mut [u8; 6]) -> Returned {
     registers::read(image, w, 143, 4, buffer)
 }
 
@@ -69,7 +69,7 @@ fn four(b: u8) -> [u8; 8] {
 }
 
 // Application 1: 4 host lanes, which may begin on lane 0 or 4.
-fn offer_four_lanes(image: &mut [u8; 768]) {
+fn offer_four_lanes(image: &mut [u8; 896]) {
     image[88] = 0x44;
     image[89] = 0x11;
 }
@@ -99,39 +99,41 @@ fn lane_0(verdict: Verdict) -> Working {
     w
 }
 
-// Answer 1: images of 0, 767 and 769 bytes, and one of 768.
+// Answer 1: images of 0, 768, 895 and 897 bytes, and one of 896.
 fn lengths() {
     let mut none = [0u8; 0];
-    let mut short = [0u8; 767];
-    let mut long = [0u8; 769];
-    let mut right = [0u8; 768];
+    let mut older = [0u8; 768];
+    let mut short = [0u8; 895];
+    let mut long = [0u8; 897];
+    let mut right = [0u8; 896];
     say_answer(b"start on 0 bytes", registers::start(&mut none));
-    say_answer(b"start on 767 bytes", registers::start(&mut short));
-    say_answer(b"start on 769 bytes", registers::start(&mut long));
-    say_answer(b"start on 768 bytes", registers::start(&mut right));
+    say_answer(b"start on 768 bytes", registers::start(&mut older));
+    say_answer(b"start on 895 bytes", registers::start(&mut short));
+    say_answer(b"start on 897 bytes", registers::start(&mut long));
+    say_answer(b"start on 896 bytes", registers::start(&mut right));
 }
 
 fn length_of_a_call() {
-    let mut short = [0u8; 767];
+    let mut short = [0u8; 768];
     let w = Working::idle();
-    say_answer(b"work on 767 bytes", registers::work(&mut short, w, 0));
+    say_answer(b"work on 768 bytes", registers::work(&mut short, w, 0));
 }
 
 // A byte of a lent image that the host could not write.
-fn set(image: &mut [u8; 768], at: usize, v: u8) {
-    if at < 768 {
+fn set(image: &mut [u8; 896], at: usize, v: u8) {
+    if at < 896 {
         image[at] = v;
     }
 }
 
 // Answer 10: one limit after the other set to 1, of low alarm, low warning, high warning and high alarm. A refused start leaves lower 3.
-fn start_with_1(image: &mut [u8; 768], limit: usize) -> Returned {
+fn start_with_1(image: &mut [u8; 896], limit: usize) -> Returned {
     set(image, limit, 1);
     registers::start(image)
 }
 
 fn back_to_front() {
-    let mut image = [0u8; 768];
+    let mut image = [0u8; 896];
     set(&mut image, 3, 0x55);
     say_answer(
         b"start, low alarm above low warning",
@@ -152,7 +154,7 @@ fn back_to_front() {
 
 // Only start asks: a sample above the high alarm and below the low one.
 fn back_to_front_when_lent() {
-    let mut image = [0u8; 768];
+    let mut image = [0u8; 896];
     let w = start(&mut image);
     set(&mut image, 451, 9);
     say_answer(b"sample, low alarm above high alarm", sample(&mut image, w));
@@ -162,7 +164,7 @@ fn back_to_front_when_lent() {
 
 // Answer 3: a state that breaks one condition.
 fn unsound() {
-    let mut image = [0u8; 768];
+    let mut image = [0u8; 896];
     offer_four_lanes(&mut image);
     let idle = start(&mut image);
     let pass = lane_0(Verdict::Pass(0));
@@ -177,7 +179,7 @@ fn unsound() {
 }
 
 fn unsound_at_rest() {
-    let mut image = [0u8; 768];
+    let mut image = [0u8; 896];
     offer_four_lanes(&mut image);
     let idle = start(&mut image);
     set(&mut image, 747, 0x01);
@@ -189,7 +191,7 @@ fn unsound_at_rest() {
 
 // Answer 5: the buffer stays as it was.
 fn short_buffer() {
-    let mut image = [0u8; 768];
+    let mut image = [0u8; 896];
     let mut buffer = [7u8; 3];
     let w = start(&mut image);
     say_answer(
@@ -201,7 +203,7 @@ fn short_buffer() {
 
 // The buffer beyond a read's count, and a trigger's byte that a lent image holds.
 fn read_triggers() {
-    let mut image = [0u8; 768];
+    let mut image = [0u8; 896];
     let mut buffer = [7u8; 6];
     let w = start(&mut image);
     set(&mut image, 127, 0x10);
@@ -217,14 +219,14 @@ fn read_triggers() {
 }
 
 // Stages Application 1 on lanes 0-3 and triggers ApplyDPInit.
-fn marked(image: &mut [u8; 768]) -> Working {
+fn marked(image: &mut [u8; 896]) -> Working {
     let begun = start(image);
     let paged = write(image, begun, 127, 1, one(0x10));
     let staged = write(image, paged, 145, 4, four(0x10));
     write(image, staged, 143, 1, one(0x0f))
 }
 
-fn two_steps(image: &mut [u8; 768], w: Working) -> Working {
+fn two_steps(image: &mut [u8; 896], w: Working) -> Working {
     let first = work(image, w, 0);
     let between = first.working;
     let second = work(image, between, 0);
@@ -233,7 +235,7 @@ fn two_steps(image: &mut [u8; 768], w: Working) -> Working {
 }
 
 // The four copying steps and the closing one.
-fn work_out(image: &mut [u8; 768], w: Working) -> Returned {
+fn work_out(image: &mut [u8; 896], w: Working) -> Returned {
     let half = two_steps(image, w);
     let copied = two_steps(image, half);
     work(image, copied, 0)
@@ -241,7 +243,7 @@ fn work_out(image: &mut [u8; 768], w: Working) -> Returned {
 
 // The lanes to be commissioned: an ApplyImmediate that closes in DPInitialized.
 fn commission() {
-    let mut image = [0u8; 768];
+    let mut image = [0u8; 896];
     offer_four_lanes(&mut image);
     let w = marked(&mut image);
     let closed = work_out(&mut image, w);
@@ -256,7 +258,7 @@ fn commission() {
 
 // A rejection's record, from its trigger to its closing step.
 fn rejection() {
-    let mut image = [0u8; 768];
+    let mut image = [0u8; 896];
     let w = marked(&mut image);
     say(b"rejected with", code_on_lane_0(w));
     let left = work(&mut image, w, 3);
@@ -281,7 +283,7 @@ fn code_on_lane_0(w: Working) -> u8 {
 }
 
 // The active DPConfig of a path of Application 1.
-fn use_lanes_0_to_3(image: &mut [u8; 768]) {
+fn use_lanes_0_to_3(image: &mut [u8; 896]) {
     image[718] = 0x10;
     image[719] = 0x10;
     image[720] = 0x10;
@@ -289,7 +291,7 @@ fn use_lanes_0_to_3(image: &mut [u8; 768]) {
 }
 
 // DPTxTurnOn, with a DPInitPending bit of lane 2.
-fn turn_on_lanes_0_to_3(image: &mut [u8; 768]) {
+fn turn_on_lanes_0_to_3(image: &mut [u8; 896]) {
     image[640] = 0x55;
     image[641] = 0x55;
     image[747] = 0x04;
@@ -297,7 +299,7 @@ fn turn_on_lanes_0_to_3(image: &mut [u8; 768]) {
 
 // A lent state in DPTxTurnOn with a pending bit alone: R without S.
 fn turn_on_with_pending() {
-    let mut image = [0u8; 768];
+    let mut image = [0u8; 896];
     offer_four_lanes(&mut image);
     let w = start(&mut image);
     use_lanes_0_to_3(&mut image);

@@ -110,7 +110,7 @@ fn by_calls(image: &mut [u8]) {
 }
 
 fn main() {
-    let mut image = [0u8; 768];
+    let mut image = [0u8; 896];
     with_room(&mut image);
     without_room(&mut image);
     by_calls(&mut image);

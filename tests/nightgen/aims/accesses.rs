@@ -16,7 +16,28 @@ impl Maker {
 
     /// Reads of what a host looks at, with the page selected first.
     pub(super) fn look(&mut self) -> Event {
-        let (page, address, count) = match self.rng.below(16) {
+        let (page, address, count) = if self.wild && self.rng.percent(8) {
+            self.command_registers()
+        } else {
+            self.usual_registers()
+        };
+        // A night for measuring selects 9Fh now and then, but its host takes
+        // it for a page that is not there, as it was when that night was made.
+        let here = match self.state.page() {
+            0x9F if !self.wild => 0x00,
+            page => page,
+        };
+        let read = Event::Read { address, count };
+        if address < 128 || (here == page && self.rng.percent(90)) {
+            return read;
+        }
+        let errand = vec![self.page(page), read];
+        self.begin(errand)
+    }
+
+    /// Page, address and count of what a host usually looks at.
+    fn usual_registers(&mut self) -> (u8, u8, u8) {
+        match self.rng.below(16) {
             0 | 1 => (0x11, 202, 4),
             2 => (0x11, 206, 8),
             3 => (0x11, 206, 30),
@@ -32,13 +53,7 @@ impl Maker {
             14 if self.rng.percent(30) => (self.rng.pick(&[0x00, 0x01, 0x02, 0x10, 0x11]), 128, 128),
             14 => (0, 3, 8),
             _ => (0, self.rng.pick(&[0, 3, 8, 9, 31, 86, 120, 126]), 1 + self.rng.byte() % 2),
-        };
-        let read = Event::Read { address, count };
-        if address < 128 || (self.state.page() == page && self.rng.percent(90)) {
-            return read;
         }
-        let errand = vec![self.page(page), read];
-        self.begin(errand)
     }
 
     pub(super) fn select(&mut self) -> Event {

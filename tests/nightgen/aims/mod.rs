@@ -2,9 +2,11 @@
 
 mod accesses;
 mod applies;
+mod commands;
 mod paths;
 mod signals;
 
+pub use self::commands::Slip;
 use crate::rng::Rng;
 use crate::state::State;
 use second::module::Event;
@@ -19,6 +21,9 @@ pub struct Maker {
     errand: VecDeque<Event>,
     /// Whether odd and wrong records are mixed in.
     wild: bool,
+    /// What is wrong with the last message that was decided on, if it is one
+    /// byte alone.
+    pub slip: Option<Slip>,
 }
 
 impl Maker {
@@ -29,7 +34,7 @@ impl Maker {
 
     /// A maker that goes on from any state.
     pub fn from(rng: Rng, state: State, wild: bool) -> Maker {
-        Maker { rng, state, errand: VecDeque::new(), wild }
+        Maker { rng, state, errand: VecDeque::new(), wild, slip: None }
     }
 
     pub fn next(&mut self) -> Event {
@@ -38,10 +43,12 @@ impl Maker {
         }
         // A host that is always at it, with wrong records mixed in; or, for
         // measuring, all six kinds of event about equally often.
+        let free = self.errand.is_empty();
         let weights = if self.wild {
-            [26, 24, if self.errand.is_empty() { 14 } else { 2 }, 4, 4, 22, 8, 8, 3, 3, 3, 2, 3, 3]
+            let (provision, command) = if free { (14, 11) } else { (2, 0) };
+            [26, 24, provision, 4, 4, 22, 8, 8, 3, 3, 3, 2, 3, 4, command]
         } else {
-            [19, 19, if self.errand.is_empty() { 6 } else { 0 }, 1, 1, 18, 19, 19, 1, 1, 1, 1, 0, 0]
+            [19, 19, if free { 6 } else { 0 }, 1, 1, 18, 19, 19, 1, 1, 1, 1, 0, 0, 0]
         };
         let mut left = self.rng.below(weights.iter().sum());
         let mut choice = 0;
@@ -63,7 +70,8 @@ impl Maker {
             10 => self.stage_something(),
             11 => self.trigger_again(),
             12 => self.anything(),
-            _ => self.mute(),
+            13 => self.mute(),
+            _ => self.command(),
         }
     }
 

@@ -7,7 +7,9 @@ use second::module::*;
 use second::registers::*;
 
 impl Coverage {
-    /// A write is the same as its bytes written one by one.
+    /// A write that runs no command is the same as its bytes written one by
+    /// one. (One that runs a command is not: the command comes after all its
+    /// bytes. `look_at_command` says what it leaves.)
     pub(super) fn look_at_write(&mut self, before: &State, address: u8, data: &[u8], after: &State) {
         let mut state = before.clone();
         let mut triggers = 0;
@@ -18,10 +20,18 @@ impl Coverage {
             match place {
                 126 => {
                     bank_here = true;
-                    if page >= 0x10 && bank == 0 && byte != 0 {
-                        self.hit("pages", "126 moves upper addresses from 10h or 11h to 00h");
-                    } else if page >= 0x10 && bank != 0 && byte == 0 {
-                        self.hit("pages", "126 back to 0 brings 10h or 11h back");
+                    match (page, bank != 0, byte != 0) {
+                        (0x9F, false, true) => {
+                            self.hit("pages", "126 moves upper addresses from 9Fh to 00h")
+                        }
+                        (0x9F, true, false) => self.hit("pages", "126 back to 0 brings 9Fh back"),
+                        (0x10.., false, true) => {
+                            self.hit("pages", "126 moves upper addresses from 10h or 11h to 00h")
+                        }
+                        (0x10.., true, false) => {
+                            self.hit("pages", "126 back to 0 brings 10h or 11h back")
+                        }
+                        _ => {}
                     }
                 }
                 127 => {
@@ -37,6 +47,8 @@ impl Coverage {
                         (0x02, _) => "127 takes 02h",
                         (0x10, 0) => "127 takes 10h",
                         (0x11, 0) => "127 takes 11h",
+                        (0x9F, 0) => "127 takes 9Fh",
+                        (0x9F, _) => "127 refused: 9Fh beside a bank",
                         (0x10, _) | (0x11, _) => "127 refused: 10h or 11h beside a bank",
                         _ => "127 refused: no such page",
                     });
@@ -48,10 +60,12 @@ impl Coverage {
                 _ => {
                     self.hit("pages", match (upper, page) {
                         (0x00, 0x10) | (0x00, 0x11) => "write on 00h in place of 10h or 11h",
+                        (0x00, 0x9F) => "write on 00h in place of 9Fh",
                         (0x00, _) => "write on 00h",
                         (0x01, _) => "write on 01h",
                         (0x02, _) => "write on 02h",
                         (0x10, _) => "write on 10h",
+                        (0x9F, _) => "write on 9Fh",
                         _ => "write on 11h",
                     });
                     if upper == 0x10 {
@@ -94,20 +108,25 @@ impl Coverage {
 
     pub(super) fn look_at_read(&mut self, before: &State, address: u8, count: u8, after: &State) {
         let page = before.page();
-        let shadowed = page == 0 && before.image[PAGE_SELECT] != 0;
+        let selected = before.image[PAGE_SELECT];
         let end = address as u32 + count as u32;
         let over = |from: u32, to: u32| (address as u32) < to && from < end;
         self.hit("pages", match (address, page) {
             (0..=127, _) => "read on lower memory",
-            (_, 0x00) if shadowed => "read on 00h in place of 10h or 11h",
+            (_, 0x00) if selected == 0x9F => "read on 00h in place of 9Fh",
+            (_, 0x00) if selected != 0 => "read on 00h in place of 10h or 11h",
             (_, 0x00) => "read on 00h",
             (_, 0x01) => "read on 01h",
             (_, 0x02) => "read on 02h",
             (_, 0x10) => "read on 10h",
+            (_, 0x9F) => "read on 9Fh",
             _ => "read on 11h",
         });
         if count == 128 {
             self.hit("pages", "read of 128 bytes");
+            if address == 128 && page == 0x9F {
+                self.hit("pages", "read of 128 bytes of 9Fh");
+            }
         }
         if page == 0x10 && over(143, 145) {
             self.hit("pages", "read of the trigger bytes");

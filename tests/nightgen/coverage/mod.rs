@@ -2,13 +2,18 @@
 
 mod accesses;
 mod applies;
+mod commands;
 mod paths;
 mod signals;
 mod wanted;
 
 use self::wanted::WANTED;
+use crate::aims::Slip;
+use crate::messages::runs_command;
+use crate::nights::Made;
 use crate::state::State;
 use second::module::*;
+use second::night::Edition;
 use second::registers::*;
 use std::collections::BTreeMap;
 use std::io::{self, Write};
@@ -49,16 +54,51 @@ impl Coverage {
         Ok(missing)
     }
 
-    /// Looks at one event: the state before it, what it gave, the state after.
-    pub fn look(&mut self, before: &State, event: &Event, outcome: &Outcome, after: &State) {
+    /// Looks at a night as a file of an edition.
+    pub fn look_at_edition(&mut self, edition: Edition, made: &Made) {
+        let longest = made.events.len() == 5000;
+        if edition.number == 1 {
+            self.hit("nights", "edition 1");
+            if longest {
+                self.hit("nights", "edition 1 of 5000 records");
+            }
+        } else {
+            self.hit("nights", "edition 2");
+            if longest {
+                self.hit("nights", "edition 2 of 5000 records");
+            }
+            if made.image[P9F + 128..].iter().any(|&byte| byte != 0) {
+                self.hit("nights", "edition 2 with bytes on 9Fh that start clears");
+            }
+        }
+    }
+
+    /// Looks at one event: the state before it, what it gave, the state after,
+    /// and what is wrong with the message that is being sent.
+    pub fn look(
+        &mut self,
+        before: &State,
+        event: &Event,
+        outcome: &Outcome,
+        after: &State,
+        slip: Option<Slip>,
+    ) {
         self.records += 1;
         let done = outcome.answer == 0;
         match *event {
             Event::Write { address, count, data } => {
                 if done {
                     self.hit("answers", "0 write");
-                    self.look_at_write(before, address, &data[..count as usize], after);
+                    let data = &data[..count as usize];
+                    if runs_command(before, address, data.len()) {
+                        self.hit("pages", "write on 9Fh");
+                        self.look_at_command(before, address, data, after, slip);
+                    } else {
+                        self.look_at_write(before, address, data, after);
+                        self.look_at_no_command(before, address, data);
+                    }
                 } else {
+                    self.look_at_refused_write(before, address);
                     self.hit("answers", match (count, address) {
                         (0, _) => "4 write of count 0",
                         (9..=255, _) => "4 write of count above 8",
@@ -71,6 +111,7 @@ impl Coverage {
                 if done {
                     self.hit("answers", "0 read");
                     self.look_at_read(before, address, count, after);
+                    self.look_at_answer_read(before, address, count, after);
                 } else {
                     self.hit("answers", match (count, address) {
                         (0, _) => "4 read of count 0",
@@ -131,6 +172,7 @@ impl Coverage {
         }
         if done {
             self.look_at_interrupt(before, event, after);
+            self.look_at_command_mask(before, event, after);
         }
     }
 }

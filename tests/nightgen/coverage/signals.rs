@@ -2,6 +2,8 @@
 
 use super::Coverage;
 use crate::image::{limit, limits};
+use crate::messages::runs_command;
+use crate::rules::interrupts;
 use crate::state::State;
 use second::module::*;
 use second::registers::*;
@@ -61,8 +63,15 @@ impl Coverage {
 
     pub(super) fn look_at_interrupt(&mut self, before: &State, event: &Event, after: &State) {
         let asserted = |state: &State| state.image[3] & 1 == 0;
-        let by_host_write = matches!(event, Event::Write { .. });
+        assert_eq!(asserted(after), interrupts(&after.image), "lower 3.0 is not as its flags say");
+        let (by_host_write, by_command) = match *event {
+            Event::Write { address, count, .. } => {
+                (true, runs_command(before, address, count as usize))
+            }
+            _ => (false, false),
+        };
         match (asserted(before), asserted(after)) {
+            (false, true) if by_command => self.hit("flags", "interrupt asserted by a command"),
             (false, true) if by_host_write => self.hit("flags", "interrupt asserted by unmasking"),
             (false, true) => self.hit("flags", "interrupt asserted by an event"),
             (true, false) if by_host_write => self.hit("flags", "interrupt ended by masking"),

@@ -3,7 +3,7 @@ use mathlib.Core.Path.{_≡_}
 use Prim.Native.Nat.{_+_, _-_, _≤_}
 use native.Mathlib.Omega.{arith}
 use borrow.Author.Needs.{needs}
-use Rattle.model.specs.Map.{flagBytes, flagMasks}
+use Rattle.model.specs.Map.{moduleFlags, moduleMasks, flagBytes, flagMasks}
 use Rattle.flags_interrupt.proofs.Search.{Gathered, gathered-begin, gathered-turn, gathered-end}
 use Rattle.flags_interrupt.proofs.is_due.Statement.{statement}
 use Rattle.flags_interrupt.proofs.is_due.Tie as tie
@@ -24,6 +24,13 @@ loop-again c =
           (c .before .before .before .loop .inv .1),
     )
 
+returns : tie.Need-returns Inv-loop μ-loop
+returns c =
+    let l = c .before .before .before .loop in
+    let e : l .k ≡ 20 = omega arith in
+    gathered-end _ (l .due) (omega (arith, c .shared-slice-known4 .given moduleFlags)) (omega (arith, c .shared-slice-known4 .given moduleMasks))
+    (rw e at (l .inv .1))
+
 pub is-due-spec : {M : Type 1} → statement M
 is-due-spec =
     tie.close
@@ -38,4 +45,6 @@ is-due-spec =
     (λ c. search needs)
     (λ c. search needs)
     loop-again
-    (λ c. let e : c .before .loop .k ≡ 20 = omega arith in gathered-end _ (c .before .loop .due) (rw e at (c .before .loop .inv .1))))
+    (λ c. search needs)
+    (λ c. search needs)
+    returns)

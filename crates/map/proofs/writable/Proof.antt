@@ -1,6 +1,7 @@
 -- `map::writable` meets its contract. Assumes nothing.
+use mathlib.Core.Path.{_∙_}
 use Rattle.model.specs.Map.{writable, inRanges}
-use Rattle.map.proofs.Ranges.{first-test, then-test, all-tests}
+use Rattle.map.proofs.Ranges.{first-test, then-test, all-tests, reordered}
 use borrow.Author.Needs.{needs}
 use Rattle.map.proofs.writable.Statement.{statement}
 use Rattle.map.proofs.writable.Tie as tie
@@ -17,4 +18,6 @@ writable-spec =
     (λ c κs. search needs)
     (λ c κs. search needs)
     (λ c κs. search needs)
-    (λ c. all-tests (then-test (then-test (then-test (then-test (then-test (then-test (first-test (c .before .before .before .before .before .before .within .ensures)) (c .before .before .before .before .before .within2 .ensures)) (c .before .before .before .before .on-page .ensures)) (c .before .before .before .on-page2 .ensures)) (c .before .before .on-page3 .ensures)) (c .before .on-page4 .ensures)) (c .on-page5 .ensures))))
+    (λ c κs. search needs)
+    (λ c. all-tests (then-test (then-test (then-test (then-test (then-test (then-test (then-test (first-test (c .before .before .before .before .before .before .before .on-page .ensures)) (c .before .before .before .before .before .before .within .ensures)) (c .before .before .before .before .before .within2 .ensures)) (c .before .before .before .before .on-page2 .ensures)) (c .before .before .before .on-page3 .ensures)) (c .before .before .on-page4 .ensures)) (c .before .on-page5 .ensures)) (c .on-page6 .ensures))
+    ∙ reordered _ _ _ _ _ _ _ _))

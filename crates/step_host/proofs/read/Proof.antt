@@ -7,6 +7,7 @@ use Rattle.model.specs.declared.answer.Answer.the-variants.{BadAccess, ShortBuf
 use Rattle.access_limits.proofs.Halves.{good-access}
 use Rattle.step_answers.proofs.Outcomes.{refused-leaves, done-leaves}
 use Rattle.step_answers.proofs.Answered.{read-bad, read-short, read-done}
+use Rattle.step_host.proofs.Ends.{read-ended}
 use Rattle.step_host.proofs.read.Statement.{statement}
 use Rattle.step_host.proofs.read.Tie as tie
 
@@ -23,7 +24,7 @@ returns-3 c =
     let good = sym (c .before .before .before .before .before .before .before .before .before .before .before .before .before .before .bad-access .ensures) ∙ c .before .before .before .before .before .before .before .before .before .before .before .before .before .if1 .left in
     let w = c .before .before .before .before .before .before .before .before .before .read .ensures in
     let r = c .reply3 .ensures in
-    done-leaves _ _ _ _ _ _ _ _ _ (read-done _ _ _ _ good (c .before .before .before .before .before .before .before .before .before .before .before .before .if2 .left)) refl (ap (λ t. t .answer) r) (w .image) (c .before .before .before .settle .ensures)
+    done-leaves _ _ _ _ _ _ _ _ _ (read-done _ _ _ _ good (c .before .before .before .before .before .before .before .before .before .before .before .before .if2 .left)) refl (ap (λ t. t .answer) r) (w .image) (read-ended _ _ _ (c .before .before .before .end-access .ensures))
     (ap (λ t. t .working) r) (w .bytes) (ap (λ t. t .mask) r)
 
 pub read-spec : {M : Type 1} → statement M

@@ -1,0 +1,2 @@
+-- The cases of command messages, computed.
+pub mod Commands

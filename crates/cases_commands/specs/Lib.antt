@@ -1,0 +1,2 @@
+-- Cases of command messages.
+pub mod Commands

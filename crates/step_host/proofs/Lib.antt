@@ -1,0 +1,2 @@
+-- The end of an access.
+pub mod Ends

@@ -1,0 +1,2 @@
+-- A state with lower 3.0 settled.
+pub mod Settled
