@@ -18,12 +18,13 @@ use Rattle.model.specs.Map.{imageLength}
 use Rattle.model.specs.Answers.{number, isDone}
 use Rattle.model.specs.Refusals.{firstOf, isFlat, isBackToFront, wrongLength, imageRefusals, startRefusals}
 use Rattle.model.specs.Outcome.{startOutcomeBy, startOutcome}
-use Rattle.model.specs.File.{firstForms, firstEdition, editionOf, recordsOffset, recordLength, recordCount, isHeader, isWholeLength, carriedImage, imageIn, recordIn, kindOf, writeKind, readKind, workKind, hardwareKind, conditionKind, sampleKind, dataLimit, writtenBytes, usedBytes, isRecord, isWellFormed, fileCheckBy, fileCheckUpTo}
+use Rattle.model.specs.File.{Edition, formsWith, onceCall, laterEditions, editionAmong, editionOf, recordsOffset, recordLength, recordCount, isHeader, isWholeLength, carriedImage, imageIn, recordIn, kindOf, writeKind, readKind, workKind, hardwareKind, conditionKind, sampleKind, dataLimit, writtenBytes, usedBytes, isRecord, isWellFormed, fileCheckBy, fileCheckUpTo}
 use Rattle.model.specs.declared.answer.Answer.the-variants.{WrongLength, FlatMemory, Malformed, BackToFront}
 use Rattle.model.specs.declared.file.FileCheck.{FileCheck}
 use Rattle.model.specs.declared.file.FileCheck.the-variants.{Refused, Good}
-use Rattle.model.proofs.Editions.{records-alike, length-laid-out}
-use Rattle.laws.specs.Files.{NotListed, Unused, pastCount, pastData, pastRead, pastWork, pastHardware, pastCondition, pastSample, RecordFault, noSuchKind, unusedByte, HeaderFault, firstLetter, secondLetter, otherEdition, notZero, tooMany, imageElsewhere, recordsElsewhere, Fault, inHeader, otherLength, inRecord, Found, malformed, flat, backToFront, good}
+use Rattle.model.specs.declared.event.Call.{Call}
+use Rattle.model.proofs.Editions.{first, row, among-has, length-laid-out}
+use Rattle.laws.specs.Files.{NotListed, conditionBytes, Unused, pastCount, pastData, pastRead, pastWork, pastHardware, pastCondition, pastSample, RecordFault, noSuchKind, unusedByte, HeaderFault, firstLetter, secondLetter, otherEdition, notZero, tooMany, imageElsewhere, recordsElsewhere, Fault, inHeader, otherLength, inRecord, Found, malformed, flat, backToFront, good}
 
 -- ---- tests that fail
 
@@ -81,11 +82,27 @@ kind-is kind = elim (ℕ-discrete kind writeKind) [
   ]
 ]
 
-module _ (bytes : List ℕ) where
+-- the forms of an edition's records: a condition uses the bytes that the fault list says
+record Listed (e : Edition) : Type 0 where
+  conditionCall : List ℕ → Call
+  forms : e .forms ≡ formsWith (conditionBytes e) conditionCall
+  some : 0 < conditionBytes e
+
+listed : (n : ℕ) → Listed (editionAmong laterEditions n)
+listed n =
+    among-has Listed n laterEditions
+    (row (record { conditionCall = onceCall; forms = refl; some = omega arith })
+    (first (record { conditionCall = onceCall; forms = refl; some = omega arith })))
+
+module _ (e : Edition) (l : Listed e) (bytes : List ℕ) where
+  abbrev used : ℕ
+  used = usedBytes (e .forms) bytes
+
   -- a kind that is not listed uses no byte
-  used-none : NotListed (kindOf bytes) → usedBytes firstForms bytes ≡ 0
+  used-none : NotListed (kindOf bytes) → used ≡ 0
   unfolding usedBytes pick
   used-none n = rw (
+    l .forms,
     ne-eqb (kindOf bytes) writeKind (n .write),
     ne-eqb (kindOf bytes) readKind (n .read),
     ne-eqb (kindOf bytes) workKind (n .work),
@@ -95,57 +112,59 @@ module _ (bytes : List ℕ) where
   )
 
   -- a byte that a record does not use lies past those that it uses
-  unused-past : {j : ℕ} → Unused bytes j → usedBytes firstForms bytes ≤ j
+  unused-past : {j : ℕ} → Unused e bytes j → used ≤ j
   unfolding usedBytes writtenBytes pick
-  unused-past (pastCount e h) = rw e (split (ltb dataLimit (getD bytes 2 0))
+  unused-past (pastCount k h) = rw (l .forms, k) (split (ltb dataLimit (getD bytes 2 0))
       (λ t. rw (t, pick) (omega (arith, ltb-true dataLimit (getD bytes 2 0) t)))
       (λ t. rw (t, pick) h))
-  unused-past (pastData e h) = rw e (split (ltb dataLimit (getD bytes 2 0))
+  unused-past (pastData k h) = rw (l .forms, k) (split (ltb dataLimit (getD bytes 2 0))
       (λ t. rw (t, pick) (omega arith))
       (λ t. rw (t, pick) (omega (arith, ltb-false dataLimit (getD bytes 2 0) t))))
-  unused-past (pastRead e h) = rw e h
-  unused-past (pastWork e h) = rw e h
-  unused-past (pastHardware e h) = rw e h
-  unused-past (pastCondition e h) = rw e h
-  unused-past (pastSample e h) = rw e h
+  unused-past (pastRead k h) = rw (l .forms, k) h
+  unused-past (pastWork k h) = rw (l .forms, k) h
+  unused-past (pastHardware k h) = rw (l .forms, k) h
+  unused-past (pastCondition k h) = rw (l .forms, k) h
+  unused-past (pastSample k h) = rw (l .forms, k) h
 
   -- of a write: past its count, or past the bytes that a record carries
-  write-unused : (j : ℕ) → kindOf bytes ≡ writeKind → usedBytes firstForms bytes ≤ j → Unused bytes j
+  write-unused : (j : ℕ) → kindOf bytes ≡ writeKind → used ≤ j → Unused e bytes j
   unfolding usedBytes writtenBytes pick
-  write-unused j e h = split (ltb dataLimit (getD bytes 2 0))
-      (λ t. pastData e (rw (e, t, pick) at h))
-      (λ t. pastCount e (rw (e, t, pick) at h))
+  write-unused j k h = split (ltb dataLimit (getD bytes 2 0))
+      (λ t. pastData k (rw (l .forms, k, t, pick) at h))
+      (λ t. pastCount k (rw (l .forms, k, t, pick) at h))
 
   -- a record that fails its test has a fault: in a byte that it does not use ..
-  byte-fault : 0 < usedBytes firstForms bytes → ((j : ℕ) → usedBytes firstForms bytes ≤ j → Unused bytes j) → isRecord firstEdition bytes ≡ false → RecordFault bytes
+  byte-fault : 0 < used → ((j : ℕ) → used ≤ j → Unused e bytes j) → isRecord e bytes ≡ false → RecordFault e bytes
   unfolding isRecord
   byte-fault some past = both-fails _ _
-      (λ e. absurd (clash (lt-ltb 0 (usedBytes firstForms bytes) some) e))
-      (λ e.
-      let r = all-fails recordLength _ e in
+      (λ t. absurd (clash (lt-ltb 0 used some) t))
+      (λ t.
+      let r = all-fails recordLength _ t in
       let i = implies-fails _ _ (r .2) in
       unusedByte (r .0) (r .1) (past (r .0) (leb-true _ _ (i .0))) (eqb-false _ _ (i .1)))
 
   -- .. or in its kind
-  record-fault : Kind (kindOf bytes) → isRecord firstEdition bytes ≡ false → RecordFault bytes
+  record-fault : Kind (kindOf bytes) → isRecord e bytes ≡ false → RecordFault e bytes
   unfolding usedBytes writtenBytes pick
-  record-fault (writes e) = byte-fault (rw e (omega arith)) (λ j. write-unused j e)
-  record-fault (reads e) = byte-fault (rw e (omega arith)) (λ j h. pastRead e (rw e at h))
-  record-fault (works e) = byte-fault (rw e (omega arith)) (λ j h. pastWork e (rw e at h))
-  record-fault (moves e) = byte-fault (rw e (omega arith)) (λ j h. pastHardware e (rw e at h))
-  record-fault (raises e) = byte-fault (rw e (omega arith)) (λ j h. pastCondition e (rw e at h))
-  record-fault (samples e) = byte-fault (rw e (omega arith)) (λ j h. pastSample e (rw e at h))
-  record-fault (other n) = λ e. noSuchKind n
+  record-fault (writes k) = byte-fault (rw (l .forms, k) (omega arith)) (λ j. write-unused j k)
+  record-fault (reads k) = byte-fault (rw (l .forms, k) (omega arith)) (λ j h. pastRead k (rw (l .forms, k) at h))
+  record-fault (works k) = byte-fault (rw (l .forms, k) (omega arith)) (λ j h. pastWork k (rw (l .forms, k) at h))
+  record-fault (moves k) = byte-fault (rw (l .forms, k) (omega arith)) (λ j h. pastHardware k (rw (l .forms, k) at h))
+  record-fault (raises k) = byte-fault (rw (l .forms, k) (l .some)) (λ j h. pastCondition k (rw (l .forms, k) at h))
+  record-fault (samples k) = byte-fault (rw (l .forms, k) (omega arith)) (λ j h. pastSample k (rw (l .forms, k) at h))
+  record-fault (other n) = λ t. noSuchKind n
 
   -- one that passes has none
-  no-record-fault : isRecord firstEdition bytes ≡ true → RecordFault bytes → ⊥
+  no-record-fault : isRecord e bytes ≡ true → RecordFault e bytes → ⊥
   unfolding isRecord
-  no-record-fault h (noSuchKind n) = let u : 0 < usedBytes firstForms bytes = ltb-true _ _ (both-l _ _ h) in omega (arith, used-none n)
+  no-record-fault h (noSuchKind n) = let u : 0 < used = ltb-true _ _ (both-l _ _ h) in omega (arith, used-none n)
   no-record-fault h (unusedByte j b u n) = n (eqb-true _ _ (implies-use _ _ (all-at recordLength _ (both-r _ _ h) j b) (le-leb _ _ (unused-past u))))
 
-  -- the test of a record fails exactly where it has a fault
-  pub record-exactly : (isRecord firstEdition bytes ≡ false) ↔ RecordFault bytes
-  record-exactly = fails-exactly _ (record-fault (kind-is (kindOf bytes))) no-record-fault
+-- the test of a record fails exactly where it has a fault, in the edition of any number
+pub record-exactly : (n : ℕ) (bytes : List ℕ) → (isRecord (editionAmong laterEditions n) bytes ≡ false) ↔ RecordFault (editionAmong laterEditions n) bytes
+record-exactly n bytes =
+    let e = editionAmong laterEditions n in
+    fails-exactly _ (record-fault e (listed n) bytes (kind-is (kindOf bytes))) (no-record-fault e (listed n) bytes)
 
 -- ---- a header
 
@@ -182,10 +201,6 @@ numberIn (Refused a) = number a
 numberIn (Good n) = 0
 
 module _ (limit : ℕ) (file : List ℕ) where
-  -- its edition's records are those of the first
-  alike : (k : ℕ) → isRecord (editionOf file) (recordIn file k) ≡ isRecord firstEdition (recordIn file k)
-  alike k = records-alike (getD file 2 0) (recordIn file k)
-
   -- its image has the right length
   its-image : wrongLength (imageIn file) ≡ false
   unfolding wrongLength
@@ -197,7 +212,7 @@ module _ (limit : ℕ) (file : List ℕ) where
   a-fault =
       both-fails _ _
       (both-fails _ _ (λ e. inHeader (header-exactly limit file .0 e)) (λ e. otherLength (eqb-false _ _ e)))
-      (λ e. let r = all-fails (recordCount file) _ e in inRecord (r .0) (r .1) (record-exactly (recordIn file (r .0)) .0 (sym (alike (r .0)) ∙ r .2)))
+      (λ e. let r = all-fails (recordCount file) _ e in inRecord (r .0) (r .1) (record-exactly (getD file 2 0) (recordIn file (r .0)) .0 (r .2)))
 
   -- .. and where it holds
   module _ (formed : isWellFormed limit file ≡ true) where
@@ -209,14 +224,14 @@ module _ (limit : ℕ) (file : List ℕ) where
     unfolding isWellFormed isWholeLength
     its-length = eqb-true _ _ (both-r _ _ (both-l _ _ formed))
 
-    its-record : (k : ℕ) → k < recordCount file → isRecord firstEdition (recordIn file k) ≡ true
+    its-record : (k : ℕ) → k < recordCount file → isRecord (editionOf file) (recordIn file k) ≡ true
     unfolding isWellFormed
-    its-record k b = sym (alike k) ∙ all-at _ _ (both-r _ _ formed) k b
+    its-record k b = all-at _ _ (both-r _ _ formed) k b
 
     no-fault : Fault limit file → ⊥
     no-fault (inHeader f) = clash its-header (header-exactly limit file .1 f)
     no-fault (otherLength n) = n its-length
-    no-fault (inRecord k b f) = clash (its-record k b) (record-exactly (recordIn file k) .1 f)
+    no-fault (inRecord k b f) = clash (its-record k b) (record-exactly (getD file 2 0) (recordIn file k) .1 f)
 
     -- what start asks of its image is what is found
     found-flat : isFlat (imageIn file) ≡ true → fileCheckUpTo limit file ≡ Refused FlatMemory

@@ -8,7 +8,7 @@ use Prim.Native.Nat.{ℕ, _+_, _*_, _≤_, _<_}
 use lib.ListN.{length, getD}
 use Rattle.bits.specs.Word.{word}
 use Rattle.model.specs.Refusals.{isFlat, isBackToFront}
-use Rattle.model.specs.File.{editionOf, imageOffset, recordsOffset, recordLength, recordCount, imageIn, recordIn, kindOf, writeKind, readKind, workKind, hardwareKind, conditionKind, sampleKind, dataStart, dataLimit}
+use Rattle.model.specs.File.{Edition, editionOf, imageOffset, recordsOffset, recordLength, recordCount, imageIn, recordIn, kindOf, writeKind, readKind, workKind, hardwareKind, conditionKind, sampleKind, dataStart, dataLimit}
 use Rattle.model.specs.declared.answer.Answer.the-variants.{FlatMemory, Malformed, BackToFront}
 use Rattle.model.specs.declared.file.FileCheck.{FileCheck}
 use Rattle.model.specs.declared.file.FileCheck.the-variants.{Refused, Good}
@@ -22,21 +22,25 @@ pub record NotListed (kind : ℕ) : Type 0 where
   pub condition : kind ≢ conditionKind
   pub sample : kind ≢ sampleKind
 
--- byte j of a record is one that its kind does not use: what lies past a write's count of data, or past the eight bytes that a record carries;
--- past a read's address and count, a lane, a flag byte and its mask, a lane and the two bytes of its sample
-pub data Unused (bytes : List ℕ) (j : ℕ) : Type 0 where
-  pastCount : kindOf bytes ≡ writeKind → dataStart + getD bytes 2 0 ≤ j → Unused bytes j
-  pastData : kindOf bytes ≡ writeKind → dataStart + dataLimit ≤ j → Unused bytes j
-  pastRead : kindOf bytes ≡ readKind → 3 ≤ j → Unused bytes j
-  pastWork : kindOf bytes ≡ workKind → 2 ≤ j → Unused bytes j
-  pastHardware : kindOf bytes ≡ hardwareKind → 2 ≤ j → Unused bytes j
-  pastCondition : kindOf bytes ≡ conditionKind → 3 ≤ j → Unused bytes j
-  pastSample : kindOf bytes ≡ sampleKind → 4 ≤ j → Unused bytes j
+-- how many bytes of a record a condition uses, in an edition: its kind, a flag byte and its mask
+abbrev pub conditionBytes : Edition → ℕ
+conditionBytes e = 3
 
--- a fault of a record: in its kind, in a byte that it does not use
-pub data RecordFault (bytes : List ℕ) : Type 0 where
-  noSuchKind : NotListed (kindOf bytes) → RecordFault bytes
-  unusedByte : (j : ℕ) → j < recordLength → Unused bytes j → getD bytes j 0 ≢ 0 → RecordFault bytes
+-- byte j of a record is one that its kind does not use, in the file's edition: what lies past a write's count of data, or past the eight bytes
+-- that a record carries; past a read's address and count, a lane, what a condition uses, a lane and the two bytes of its sample
+pub data Unused (e : Edition) (bytes : List ℕ) (j : ℕ) : Type 0 where
+  pastCount : kindOf bytes ≡ writeKind → dataStart + getD bytes 2 0 ≤ j → Unused e bytes j
+  pastData : kindOf bytes ≡ writeKind → dataStart + dataLimit ≤ j → Unused e bytes j
+  pastRead : kindOf bytes ≡ readKind → 3 ≤ j → Unused e bytes j
+  pastWork : kindOf bytes ≡ workKind → 2 ≤ j → Unused e bytes j
+  pastHardware : kindOf bytes ≡ hardwareKind → 2 ≤ j → Unused e bytes j
+  pastCondition : kindOf bytes ≡ conditionKind → conditionBytes e ≤ j → Unused e bytes j
+  pastSample : kindOf bytes ≡ sampleKind → 4 ≤ j → Unused e bytes j
+
+-- a fault of a record in an edition: in its kind, in a byte that it does not use
+pub data RecordFault (e : Edition) (bytes : List ℕ) : Type 0 where
+  noSuchKind : NotListed (kindOf bytes) → RecordFault e bytes
+  unusedByte : (j : ℕ) → j < recordLength → Unused e bytes j → getD bytes j 0 ≢ 0 → RecordFault e bytes
 
 -- a fault of a header: in the letters "WL", the edition, the zero, the count, the offsets
 pub data HeaderFault (limit : ℕ) (header : List ℕ) : Type 0 where
@@ -52,7 +56,7 @@ pub data HeaderFault (limit : ℕ) (header : List ℕ) : Type 0 where
 pub data Fault (limit : ℕ) (file : List ℕ) : Type 0 where
   inHeader : HeaderFault limit file → Fault limit file
   otherLength : length file ≢ recordsOffset (editionOf file) + recordLength * recordCount file → Fault limit file
-  inRecord : (k : ℕ) → k < recordCount file → RecordFault (recordIn file k) → Fault limit file
+  inRecord : (k : ℕ) → k < recordCount file → RecordFault (editionOf file) (recordIn file k) → Fault limit file
 
 -- what is found of a file: 9 where it has a fault; else 2 and 10 as start of its image has them; else it is good
 pub data Found (limit : ℕ) (file : List ℕ) : FileCheck → Type 0 where

@@ -15,7 +15,7 @@ use Rattle.model.specs.Start.{startedState}
 use Rattle.model.specs.Refusals.{firstOf, startRefusals, listRefusals}
 use Rattle.model.specs.Step.{Stepped, step, run}
 use Rattle.model.specs.Outcome.{laidOver, listRoom, numbersOf, startOutcomeBy, startOutcome, stepOutcome, listOutcomeBy, listOutcome}
-use Rattle.model.specs.File.{recordLimit, recordCount, imageIn, recordIn, eventOf, eventsIn, isWellFormed, fileCheckBy, fileCheckUpTo}
+use Rattle.model.specs.File.{editionOf, recordLimit, recordCount, imageIn, recordIn, eventOf, eventsIn, isWellFormed, fileCheckBy, fileCheckUpTo}
 use Rattle.model.specs.Text.{line}
 use Rattle.model.specs.Night.{linesFrom, nightOf, printedTextBy, printedUpTo, printedText}
 use Rattle.model.specs.declared.answer.Answer.{Answer}
@@ -70,7 +70,7 @@ module _ (file : List ℕ) (replayed : Replayed file) where
 
   count-is : length (eventsIn file) ≡ recordCount file
   unfolding eventsIn
-  count-is = length-tab (recordCount file) (λ k. eventOf (recordIn file k))
+  count-is = length-tab (recordCount file) (λ k. eventOf (editionOf file) (recordIn file k))
 
   numbers-length : length (numbersOf (nightOf file)) ≡ recordCount file
   unfolding nightOf

@@ -181,7 +181,7 @@ module _ (bytes : Bytes) (I : Imaged bytes) where
       ∙ taken-lines (goodFile bytes) good-imaged (ap (λ x. firstOf (startRefusals (laidOut x))) good-image ∙ S)
       ∙ ap (λ text. goodLines (goodFile bytes) ++ text) (pick-true _ _ good-all)
       ∙ append-nil (goodLines (goodFile bytes))
-      ∙ rw (good-image, good-records)
+      ∙ rw (same-edition, good-image, good-records)
 
 -- ---- the theorem
 

@@ -7,7 +7,7 @@ use native.Mathlib.Decide.{decLt}
 use native.Mathlib.Omega.{arith}
 use lib.Dec.{leb}
 use lib.ListN.{length, getD, take, drop, take-append-drop, length-drop}
-use lib.Seq.{length-take-le, getD-take, drop-drop}
+use lib.Seq.{length-take-le, take-all, getD-take, drop-drop}
 use borrow.Author.Tests.{lt-ltb, le-ltb, leb-true, leb-false, le-leb, lt-leb, ne-eqb}
 use Rattle.bits.specs.Choice.{pick, both}
 use Rattle.bits.proofs.Tests.{split, both-l, both-r, pick-true, pick-false}
@@ -21,7 +21,7 @@ use Rattle.model.specs.Outcome.{listRoom}
 use Rattle.model.specs.File.{editionOf, imageOffset, recordsOffset, recordCount, isHeader, recordLength, isRecord, eventOf, carriedImage, laidOut, imageIn}
 use Rattle.model.specs.Text.{line, badLine}
 use Rattle.model.specs.Night.{linesFrom}
-use Rattle.model.specs.Stream.{Carried, Took, rowOf, silent, holding, entering, refused, tookHeader, startedBy, tookRecord, played, endedIn, printedAfter, fed, fedAll, countLimit, afterImage, leadingRecords, streamed, begun}
+use Rattle.model.specs.Stream.{Carried, Took, rowOf, silent, holding, entering, refused, tookHeader, startedBy, judgedRecord, tookRecord, played, endedIn, printedAfter, fed, fedAll, countLimit, afterImage, leadingRecords, streamed, begun}
 use Rattle.model.specs.declared.answer.Answer.{Answer}
 use Rattle.model.specs.declared.answer.Answer.the-variants.{Malformed}
 use Rattle.model.specs.declared.stream.Phase.the-variants.{InImage, InRecords}
@@ -94,6 +94,7 @@ module _ (c : Carried) (next : RecordIndex) (records : Count) (w : Awaits c next
         ∙ ap (λ held. tookRecord c next records (held ++ take recordLength bytes)) (w .none)
         ∙ pick-true _ _ (lt-ltb next records due)
         ∙ pick-false _ _ (le-ltb (length (take recordLength bytes)) recordLength (omega arith))
+        ∙ ap (judgedRecord c next records) (take-all recordLength (take recordLength bytes) (omega arith))
         ∙ pick-false _ _ bad)
 
     stops : isFirst (rowOf c) bytes ≡ false → fedAll c (bytes ∷ []) .text ≡ badLine (number Malformed)
@@ -101,7 +102,7 @@ module _ (c : Carried) (next : RecordIndex) (records : Count) (w : Awaits c next
     stops h = split (leb recordLength (length bytes)) (λ l. malformed (leb-true _ _ l) (rw (l, both) at h)) (λ l. cut-off (leb-false _ _ l))
 
     goes : isFirst (rowOf c) bytes ≡ true
-        → let o : Stepped = step early listRoom (c .state) (eventOf (take recordLength bytes)) in
+        → let o : Stepped = step early listRoom (c .state) (eventOf (rowOf c) (take recordLength bytes)) in
         fedAll c (bytes ∷ []) .text
         ≡ line next (number (o .answer)) (o .bytes) ++ fedAll (entering (InRecords (suc next) records) (o .state) c) (drop recordLength bytes ∷ []) .text
     unfolding isFirst played
@@ -115,7 +116,7 @@ records-text : (n : Count) (c : Carried) (next : RecordIndex) (records : Count) 
     → fedAll c (bytes ∷ []) .text ≡ recordsText (rowOf c) next (c .state) n bytes
 records-text zero c next records bytes w h = none-due c next records w (omega arith) bytes
 records-text (suc n) c next records bytes w h =
-    let o : Stepped = step early listRoom (c .state) (eventOf (take recordLength bytes)) in
+    let o : Stepped = step early listRoom (c .state) (eventOf (rowOf c) (take recordLength bytes)) in
     split (isFirst (rowOf c) bytes)
     (λ f.
     goes c next records w (omega arith) bytes f

@@ -54,7 +54,7 @@ module _ (bytes : Bytes) where
   lines-of k I S L =
       let e : leadingRecords (editionOf bytes) (recordCount bytes) (afterImage bytes) ≡ tab k (recordIn bytes) =
       leading-are (editionOf bytes) (recordCount bytes) (afterImage bytes) k L ∙ tab-ext k (part (afterImage bytes)) (recordIn bytes) (λ j b. sym (record-part j)) in
-      streamed-image bytes (I .headed .right) (omega (arith, I .whole)) ∙ rw (S, e, length-tab k (recordIn bytes), map-tab eventOf k (recordIn bytes))
+      streamed-image bytes (I .headed .right) (omega (arith, I .whole)) ∙ rw (S, e, length-tab k (recordIn bytes), map-tab (eventOf (editionOf bytes)) k (recordIn bytes))
 
   refused-streamed : (a : Answer) → a ≢ Done → Imaged bytes → Started a bytes → streamed bytes ≡ badLine (number a)
   unfolding imageText

@@ -29,7 +29,7 @@ use Rattle.model.specs.declared.answer.Answer.the-variants.{Malformed}
 -- n records are due, and these bytes come
 unfoldable pub recordsText : Edition → RecordIndex → State → Count → Bytes → Bytes
 recordsText e next s n bytes =
-    linesFrom next (run early listRoom s (map eventOf (leadingRecords e n bytes)))
+    linesFrom next (run early listRoom s (map (eventOf e) (leadingRecords e n bytes)))
     ++ pick (both (eqb (length (leadingRecords e n bytes)) n) (eqb (length bytes) (recordLength * n))) [] (badLine (number Malformed))
 
 -- a good record comes first
@@ -45,7 +45,7 @@ module _ (e : Edition) (next : RecordIndex) (s : State) (n : Count) (bytes : Byt
   text-bad h = rw (h, ne-eqb 0 (suc n) (λ q. omega arith))
 
   pub text-line : isFirst e bytes ≡ true
-      → let o : Stepped = step early listRoom s (eventOf (take recordLength bytes)) in
+      → let o : Stepped = step early listRoom s (eventOf e (take recordLength bytes)) in
       recordsText e next s (suc n) bytes ≡ line next (number (o .answer)) (o .bytes) ++ recordsText e (suc next) (o .state) n (drop recordLength bytes)
   unfolding recordsText isFirst leadingRecords linesFrom run pick
   text-line h =

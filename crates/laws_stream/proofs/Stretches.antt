@@ -18,7 +18,7 @@ use Rattle.model.specs.Refusals.{firstOf, startRefusals}
 use Rattle.model.specs.Step.{step}
 use Rattle.model.specs.Outcome.{listRoom}
 use Rattle.model.specs.File.{imageOffset, recordLength, isRecord, eventOf, laidOut}
-use Rattle.model.specs.Stream.{Carried, Took, rowOf, silent, holding, refused, tookHeader, startedBy, wholeImage, tookImage, played, tookRecord, tookIn, took, endedIn, ended, printedAfter, fed}
+use Rattle.model.specs.Stream.{Carried, Took, rowOf, silent, holding, refused, tookHeader, startedBy, wholeImage, tookImage, played, judgedRecord, tookRecord, tookIn, took, endedIn, ended, printedAfter, fed}
 use Rattle.model.specs.declared.answer.Answer.{Answer}
 use Rattle.model.specs.declared.answer.Answer.the-variants.{Malformed}
 use Rattle.model.specs.declared.stream.Phase.{Phase}
@@ -194,13 +194,14 @@ module _ (c : Carried) (next : RecordIndex) (records : Count) (bs : Bytes) (phas
     record-judged = judged c recordLength (tookRecord c next records) record-one record-short bs
 
   pub whole-record : c .held ≡ [] → next < records → length bs ≡ recordLength → isRecord (rowOf c) bs ≡ true
-      → fed c bs ≡ played c next records (step early listRoom (c .state) (eventOf bs))
+      → fed c bs ≡ played c next records (step early listRoom (c .state) (eventOf (rowOf c) bs))
   unfolding tookRecord
   whole-record e due l good =
       record-judged due (omega arith) (rw e (omega arith))
       ∙ ap (λ held. tookRecord c next records (held ++ bs)) e
       ∙ pick-true _ _ (lt-ltb next records due)
       ∙ pick-false _ _ (le-ltb (length bs) recordLength (omega arith))
+      ∙ ap (judgedRecord c next records) (take-all recordLength bs (omega arith))
       ∙ pick-true _ _ good
 
 -- a bad line, and what comes after it

@@ -64,7 +64,7 @@ pub record Played (bytes : Bytes) (k : Count) : Type 0 where
 
 -- the lines of records 0 to k - 1, from start on
 unfoldable pub linesTo : Bytes → Count → Bytes
-linesTo bytes k = linesFrom 0 (run early listRoom (startedState (imageIn bytes)) (tab k (λ j. eventOf (recordIn bytes j))))
+linesTo bytes k = linesFrom 0 (run early listRoom (startedState (imageIn bytes)) (tab k (λ j. eventOf (editionOf bytes) (recordIn bytes j))))
 
 -- ---- the table: bytes, and all that is printed for them
 

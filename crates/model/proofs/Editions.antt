@@ -9,31 +9,35 @@ use lib.ListN.{length, getD}
 use lib.Seq.{ext-getD}
 use borrow.Author.Tests.{leb-true, ltb-true}
 use Rattle.bits.specs.Choice.{pick, both}
-use Rattle.bits.proofs.Tests.{split, both-l, both-r}
+use Rattle.bits.proofs.Tests.{both-l, both-r}
+use Rattle.model.specs.Numbers.{Bytes, Count}
 use Rattle.model.specs.Map.{imageLength}
-use Rattle.model.specs.File.{Edition, firstForms, firstEdition, laterEditions, editionAmong, isRecord, firstBytes, laidOut}
+use Rattle.model.specs.File.{Edition, formsWith, firstEdition, laterEditions, editionAmong, firstBytes, laidOut}
+use Rattle.model.specs.declared.event.Call.{Call}
 
--- an edition carries some bytes of an image, and no more than the image has
+-- ---- what every row has, the edition of any number has
+
+pub data EachHas (P : Edition → Type 0) : List Edition → Type 0 where
+  first : P firstEdition → EachHas P []
+  row : {e : Edition} {es : List Edition} → P e → EachHas P es → EachHas P (e ∷ es)
+
+one-has : (P : Edition → Type 0) (b : Bool) {e f : Edition} → P e → P f → P (pick b e f)
+unfolding pick
+one-has P true p q = p
+one-has P false p q = q
+
+pub among-has : (P : Edition → Type 0) (n : ℕ) (es : List Edition) → EachHas P es → P (editionAmong es n)
+unfolding editionAmong
+among-has P n [] (first p) = p
+among-has P n (e ∷ es) (row p ps) = one-has P (eqb n (e .number)) p (among-has P n es ps)
+
+-- it carries some bytes of an image, and no more than the image has
 unfoldable carriesImage : Edition → Bool
 carriesImage e = both (ltb 0 (e .imageBytes)) (leb (e .imageBytes) imageLength)
 
-unfoldable allCarry : List Edition → Bool
-allCarry [] = carriesImage firstEdition
-allCarry (e ∷ es) = both (carriesImage e) (allCarry es)
-
-one-carries : (b : Bool) (e f : Edition) → carriesImage e ≡ true → carriesImage f ≡ true → carriesImage (pick b e f) ≡ true
-unfolding pick
-one-carries true e f p q = p
-one-carries false e f p q = q
-
-among-carries : (es : List Edition) (n : ℕ) → allCarry es ≡ true → carriesImage (editionAmong es n) ≡ true
-unfolding editionAmong allCarry
-among-carries [] n h = h
-among-carries (e ∷ es) n h = one-carries (eqb n (e .number)) e _ (both-l _ _ h) (among-carries es n (both-r _ _ h))
-
 carries : (n : ℕ) → carriesImage (editionAmong laterEditions n) ≡ true
-unfolding carriesImage allCarry both
-carries n = among-carries laterEditions n refl
+unfolding carriesImage both
+carries n = among-has (λ e. carriesImage e ≡ true) n laterEditions (search (row, first))
 
 pub edition-some : (n : ℕ) → 0 < editionAmong laterEditions n .imageBytes
 unfolding carriesImage
@@ -43,14 +47,17 @@ pub edition-fits : (n : ℕ) → editionAmong laterEditions n .imageBytes ≤ im
 unfolding carriesImage
 edition-fits n = leb-true _ _ (both-r _ _ (carries n))
 
--- every edition has the first one's forms of records
-forms-same : (n : ℕ) → editionAmong laterEditions n .forms ≡ firstForms
-unfolding editionAmong pick
-forms-same n = split (eqb n 2) (λ e. rw (e, pick)) (λ e. rw (e, pick))
+-- its records have the six forms
+pub record HasSixForms (e : Edition) : Type 0 where
+  pub conditionUses : Count
+  pub conditionCall : Bytes → Call
+  pub forms : e .forms ≡ formsWith conditionUses conditionCall
 
-pub records-alike : (n : ℕ) (bytes : List ℕ) → isRecord (editionAmong laterEditions n) bytes ≡ isRecord firstEdition bytes
-unfolding isRecord
-records-alike n bytes = rw (forms-same n)
+as-written : {m n uses : Count} {call : Bytes → Call} → HasSixForms (record { number = m; imageBytes = n; forms = formsWith uses call })
+as-written {m} {n} {uses} {call} = record { conditionUses = uses; conditionCall = call; forms = refl }
+
+pub six-forms : (n : ℕ) → HasSixForms (editionAmong laterEditions n)
+six-forms n = among-has HasSixForms n laterEditions (search (row, first, as-written))
 
 -- ---- an image of today's length
 

@@ -21,10 +21,11 @@ use Rattle.model.specs.declared.file.FileCheck.the-variants.{Refused, Go
 
 -- ---- the editions of the file
 
--- the form of a record: its kind, and how many of its bytes the kind uses
+-- the form of a record: its kind, how many of its bytes the kind uses, and the call that it says
 pub record Form : Type 0 where
   pub kind : Byte
   pub used : Bytes → Count
+  pub call : Bytes → Call
 
 -- an edition: its number, how many bytes of the image it carries, the forms of its records
 pub record Edition : Type 0 where
@@ -61,18 +62,30 @@ dataLimit = 8
 unfoldable pub writtenBytes : Bytes → Count
 writtenBytes bytes = dataStart + pick (ltb dataLimit (getD bytes 2 0)) dataLimit (getD bytes 2 0)
 
-abbrev pub form : Byte → (Bytes → Count) → Form
-form kind used = record { kind = kind; used = used }
+abbrev pub form : Byte → (Bytes → Count) → (Bytes → Call) → Form
+form kind used call = record { kind = kind; used = used; call = call }
+
+-- a lane and its received power, the high byte first
+abbrev pub sampleCall : Bytes → Call
+sampleCall bytes = Sample (getD bytes 1 0) (getD bytes 2 0 * 256 + getD bytes 3 0)
+
+-- the six forms; an edition may have a condition of its own: how many bytes it uses, and the call that it says
+abbrev pub formsWith : Count → (Bytes → Call) → List Form
+formsWith conditionUses conditionCall =
+    form writeKind writtenBytes (λ bytes. Write (getD bytes 1 0) (getD bytes 2 0))
+    ∷ form readKind (λ bytes. 3) (λ bytes. Read (getD bytes 1 0) (getD bytes 2 0))
+    ∷ form workKind (λ bytes. 2) (λ bytes. Work (getD bytes 1 0))
+    ∷ form hardwareKind (λ bytes. 2) (λ bytes. Hardware (getD bytes 1 0))
+    ∷ form conditionKind (λ bytes. conditionUses) conditionCall
+    ∷ form sampleKind (λ bytes. 4) sampleCall
+    ∷ []
+
+-- a condition that comes once: a flag byte and a mask
+abbrev pub onceCall : Bytes → Call
+onceCall bytes = Condition (getD bytes 1 0) (getD bytes 2 0)
 
 abbrev pub firstForms : List Form
-firstForms =
-    form writeKind writtenBytes
-    ∷ form readKind (λ bytes. 3)
-    ∷ form workKind (λ bytes. 2)
-    ∷ form hardwareKind (λ bytes. 2)
-    ∷ form conditionKind (λ bytes. 3)
-    ∷ form sampleKind (λ bytes. 4)
-    ∷ []
+firstForms = formsWith 3 onceCall
 
 abbrev pub firstEdition : Edition
 firstEdition = record { number = 1; imageBytes = 768; forms = firstForms }
@@ -129,17 +142,13 @@ isRecord e bytes =
     both (ltb 0 (usedBytes (e .forms) bytes))
     (allBelow recordLength (λ j. implies (leb (usedBytes (e .forms) bytes) j) (eqb (getD bytes j 0) 0)))
 
-unfoldable pub callOf : Bytes → Call
-callOf bytes =
-    pick (eqb (kindOf bytes) writeKind) (Write (getD bytes 1 0) (getD bytes 2 0))
-    (pick (eqb (kindOf bytes) readKind) (Read (getD bytes 1 0) (getD bytes 2 0))
-    (pick (eqb (kindOf bytes) workKind) (Work (getD bytes 1 0))
-    (pick (eqb (kindOf bytes) hardwareKind) (Hardware (getD bytes 1 0))
-    (pick (eqb (kindOf bytes) conditionKind) (Condition (getD bytes 1 0) (getD bytes 2 0))
-    (Sample (getD bytes 1 0) (getD bytes 2 0 * 256 + getD bytes 3 0))))))
+-- the call that a record says; one of a kind that is not listed is never replayed, and reads as a sample here
+unfoldable pub callOf : List Form → Bytes → Call
+callOf [] bytes = sampleCall bytes
+callOf (f ∷ fs) bytes = pick (eqb (kindOf bytes) (f .kind)) (f .call bytes) (callOf fs bytes)
 
-unfoldable pub eventOf : Bytes → Event
-eventOf bytes = record { call = callOf bytes; bytes = tab dataLimit (λ j. getD bytes (dataStart + j) 0) }
+unfoldable pub eventOf : Edition → Bytes → Event
+eventOf e bytes = record { call = callOf (e .forms) bytes; bytes = tab dataLimit (λ j. getD bytes (dataStart + j) 0) }
 
 -- ---- the whole file: the header, the image, the records
 
@@ -175,7 +184,7 @@ unfoldable pub recordIn : Bytes → RecordIndex → Bytes
 recordIn file k = take recordLength (drop (recordStart file k) file)
 
 unfoldable pub eventsIn : Bytes → List Event
-eventsIn file = tab (recordCount file) (λ k. eventOf (recordIn file k))
+eventsIn file = tab (recordCount file) (λ k. eventOf (editionOf file) (recordIn file k))
 
 unfoldable pub isWellFormed : Count → Bytes → Bool
 isWellFormed limit file =

@@ -50,7 +50,7 @@ goodRecords bytes = leadingRecords (editionOf bytes) (recordCount bytes) (afterI
 
 -- their lines, from start on
 unfoldable pub goodLines : Bytes → Bytes
-goodLines bytes = linesFrom 0 (run early listRoom (startedState (imageIn bytes)) (map eventOf (goodRecords bytes)))
+goodLines bytes = linesFrom 0 (run early listRoom (startedState (imageIn bytes)) (map (eventOf (editionOf bytes)) (goodRecords bytes)))
 
 -- every record that is counted is among them, and not a byte comes after
 unfoldable pub isAll : Bytes → Bool
@@ -131,12 +131,16 @@ unfoldable pub played : Carried → RecordIndex → Count → Stepped → Took
 played c next records o =
     record { carried = entering (InRecords (suc next) records) (o .state) c; text = line next (number (o .answer)) (o .bytes) }
 
+-- a whole record, by the edition that is carried
+abbrev pub judgedRecord : Carried → RecordIndex → Count → Bytes → Took
+judgedRecord c next records bytes =
+    pick (isRecord (rowOf c) bytes) (played c next records (step early listRoom (c .state) (eventOf (rowOf c) bytes))) (refused Malformed c)
+
 -- a record's bytes, judged at the last of them; none is due after the last record
 unfoldable pub tookRecord : Carried → RecordIndex → Count → Bytes → Took
 tookRecord c next records bytes =
     pick (ltb next records)
-    (pick (ltb (length bytes) recordLength) (silent (holding bytes c))
-    (pick (isRecord (rowOf c) bytes) (played c next records (step early listRoom (c .state) (eventOf bytes))) (refused Malformed c)))
+    (pick (ltb (length bytes) recordLength) (silent (holding bytes c)) (judgedRecord c next records (take recordLength bytes)))
     (refused Malformed c)
 
 unfoldable pub tookIn : Phase → Carried → Byte → Took

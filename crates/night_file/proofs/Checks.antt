@@ -17,11 +17,10 @@ use Rattle.bits.proofs.Loops.{all-at, all-intro}
 use Rattle.night_file.specs.Clear.{isClear, isClearFrom, lowFirst, tailOf}
 use Rattle.model.specs.Answers.{number, isDone}
 use Rattle.model.specs.Refusals.{firstOf, startRefusals}
-use Rattle.model.specs.File.{firstEdition, editionOf, recordCount, isHeader, isWholeLength, imageIn, recordIn, usedBytes, isRecord, isWellFormed, fileCheckBy, fileCheckUpTo, imageOffset, recordsOffset, recordLength}
+use Rattle.model.specs.File.{Edition, laterEditions, editionAmong, editionOf, recordCount, isHeader, isWholeLength, imageIn, recordIn, usedBytes, isRecord, isWellFormed, fileCheckBy, fileCheckUpTo, imageOffset, recordsOffset, recordLength}
 use Rattle.model.specs.declared.answer.Answer.{Answer}
 use Rattle.model.specs.declared.answer.Answer.the-variants.{Malformed}
 use Rattle.model.specs.declared.file.FileCheck.the-variants.{Refused, Good}
-use Rattle.model.proofs.Editions.{records-alike}
 
 -- ---- tests
 -- tests joined by `&`
@@ -73,16 +72,16 @@ module _ (file : List ℕ) (offset k : ℕ) (begins : offset ≡ recordsOffset (
   unfolding recordIn
   part-record = part-from (offset + recordLength * k) file ∙ ap (λ at. take recordLength (drop (at + recordLength * k) file)) begins
 
-  pub part-is : isRecord firstEdition recordPart ≡ isRecordIn file k
-  part-is = ap (isRecord firstEdition) part-record ∙ sym (records-alike (getD file 2 0) (recordIn file k))
+  pub part-is : (edition : ℕ) → edition ≡ getD file 2 0 → isRecord (editionAmong laterEditions edition) recordPart ≡ isRecordIn file k
+  part-is edition e = rw (e, part-record)
 
 -- ---- one record
-module _ (used : ℕ) (bytes : List ℕ) where
-  -- a record of a listed kind is one by the bytes that the kind does not use
-  pub record-by : (r : Bool) → r ≡ isClearFrom used bytes → usedBytes (firstEdition .forms) bytes ≡ used → 0 < used → r ≡ isRecord firstEdition bytes
-  unfolding isRecord isClearFrom both
-  record-by r p u h = rw (u, lt-ltb 0 used h, both) p
+-- a record of a listed kind is one by the bytes that the kind does not use
+pub record-by : (e : Edition) (used : ℕ) (bytes : List ℕ) (r : Bool) → r ≡ isClearFrom used bytes → usedBytes (e .forms) bytes ≡ used → 0 < used → r ≡ isRecord e bytes
+unfolding isRecord isClearFrom both
+record-by e used bytes r p u h = rw (u, lt-ltb 0 used h, both) p
 
+module _ (used : ℕ) (bytes : List ℕ) where
   clear-at : isClearFrom used bytes ≡ true → (j : ℕ) → used ≤ j → j < recordLength → getD bytes j 0 ≡ 0
   unfolding isClearFrom
   clear-at e j u h = eqb-true _ _ (implies-use (leb used j) _ (all-at recordLength (isClear used bytes) e j h) (le-leb used j u))

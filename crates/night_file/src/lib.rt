@@ -1,14 +1,14 @@
 // Night files: header, records, the check of a whole file, and the event of each of its records.
 ghost use mathlib.Core.Path.{_≡_};
 ghost use Prim.Native.Nat.{_+_, _*_, _^_, _≤_, _<_};
-ghost use lib.ListN.{length, take, drop};
+ghost use lib.ListN.{length, getD, take, drop};
 ghost use lib.Dec.{ltb};
 ghost use lib.Seq.{paste};
 ghost use Rattle.bits.specs.Choice.{pick, both};
 ghost use Rattle.bits.specs.Loop.{allBelow};
 ghost use Rattle.model.specs.Map.{imageLength};
 ghost use Rattle.model.specs.Refusals.{firstOf, startRefusals};
-ghost use Rattle.model.specs.File.{firstEdition, laterEditions, editionAmong, editionOf, isHeader, isWholeLength, recordCount, writtenBytes, isRecord, callOf, eventOf, laidOut, recordIn, fileCheck, imageOffset, recordsOffset, recordLimit, recordLength};
+ghost use Rattle.model.specs.File.{laterEditions, editionAmong, editionOf, isHeader, isWholeLength, recordCount, kindOf, conditionKind, writtenBytes, isRecord, callOf, eventOf, laidOut, recordIn, fileCheck, imageOffset, recordsOffset, recordLimit, recordLength};
 ghost use Rattle.night_file.specs.Clear.{tailOf, isClearFrom};
 use map::IMAGE_LENGTH;
 use model::answer::Answer;
@@ -83,6 +83,14 @@ pub fn image_bytes(edition: u8) -> usize
 {
     let row = edition_of(edition);
     row.image_bytes
+}
+
+// The edition that a header names.
+pub fn edition_in(header: &[u8]) -> u8
+    requires { ⌜ imageOffset ≤ length (now header) ⌝ }
+    ensures { λ r. ⌜ r ≡ getD (now (header .entry)) 2 0 ⌝ }
+{
+    header[EDITION_AT]
 }
 
 // Where the records of a file begin: they follow its image.
@@ -198,10 +206,18 @@ fn is_write(bytes: &[u8], tail: u64) -> bool
     tail < byte_limit(n - 1)
 }
 
-// Whether a record is of a listed kind, with zeros in the bytes that it does not use.
-pub fn is_record(bytes: &[u8]) -> bool
+// Whether a condition's bytes behind those that it uses are zeros: it uses three in every edition.
+fn is_condition(bytes: &[u8], tail: u64, edition: u8) -> bool
+    requires { ⌜ (recordLength ≤ length (now bytes)) × (tail ≡ tailOf (now bytes)) × (kindOf (now bytes) ≡ conditionKind) ⌝ }
+    ensures { λ r. ⌜ r ≡ isRecord (editionAmong laterEditions edition) (now (bytes .entry)) ⌝ }
+{
+    is_clear_from_3(bytes, tail)
+}
+
+// Whether a record is of a kind that an edition lists, with zeros in the bytes that it does not use.
+pub fn is_record(bytes: &[u8], edition: u8) -> bool
     requires { ⌜ recordLength ≤ length (now bytes) ⌝ }
-    ensures { λ r. ⌜ r ≡ isRecord firstEdition (now (bytes .entry)) ⌝ }
+    ensures { λ r. ⌜ r ≡ isRecord (editionAmong laterEditions edition) (now (bytes .entry)) ⌝ }
 {
     let tail = tail_of(bytes);
     match bytes[0] {
@@ -209,7 +225,7 @@ pub fn is_record(bytes: &[u8]) -> bool
         READ => is_clear_from_3(bytes, tail),
         WORK => is_clear_from_2(bytes, tail),
         HARDWARE => is_clear_from_2(bytes, tail),
-        CONDITION => is_clear_from_3(bytes, tail),
+        CONDITION => is_condition(bytes, tail, edition),
         SAMPLE => tail == 0,
         _ => false,
     }
@@ -220,9 +236,10 @@ fn are_records(file: &[u8], offset: usize, count: u32) -> bool
     requires { ⌜ (offset ≡ recordsOffset (editionOf (now file))) × (offset + recordLength * count ≤ length (now file)) ⌝ }
     ensures { λ r. ⌜ r ≡ allBelow count (λ k. isRecord (editionOf (now (file .entry))) (recordIn (now (file .entry)) k)) ⌝ }
 {
+    let edition = edition_in(file);
     for k in 0..count {
         let at = offset + RECORD_LENGTH * (k as usize);
-        if !is_record(&file[at..at + RECORD_LENGTH]) {
+        if !is_record(&file[at..at + RECORD_LENGTH], edition) {
             return false;
         }
     }
@@ -287,10 +304,21 @@ pub fn check(file: &[u8]) -> FileCheck
     FileCheck::Good(count)
 }
 
-// The call of a record.
-fn call_of(bytes: &[u8]) -> Call
+// The call of a condition's record: one that comes once, in every edition.
+fn condition_call(bytes: &[u8], edition: u8) -> Call
+    requires { ⌜ (recordLength ≤ length (now bytes)) × (kindOf (now bytes) ≡ conditionKind) ⌝ }
+    ensures { λ r. ⌜ r ≡ callOf (editionAmong laterEditions edition .forms) (now (bytes .entry)) ⌝ }
+{
+    Call::Condition {
+        flag: bytes[1],
+        mask: bytes[2],
+    }
+}
+
+// The call of a record, in an edition.
+fn call_of(bytes: &[u8], edition: u8) -> Call
     requires { ⌜ recordLength ≤ length (now bytes) ⌝ }
-    ensures { λ r. ⌜ r ≡ callOf (now (bytes .entry)) ⌝ }
+    ensures { λ r. ⌜ r ≡ callOf (editionAmong laterEditions edition .forms) (now (bytes .entry)) ⌝ }
 {
     let first = bytes[1];
     let second = bytes[2];
@@ -305,10 +333,7 @@ fn call_of(bytes: &[u8]) -> Call
         },
         WORK => Call::Work { lane: first },
         HARDWARE => Call::Hardware { lane: first },
-        CONDITION => Call::Condition {
-            flag: first,
-            mask: second,
-        },
+        CONDITION => condition_call(bytes, edition),
         _ => Call::Sample {
             lane: first,
             power: (second as u16) * 256 + (bytes[3] as u16),
@@ -316,12 +341,12 @@ fn call_of(bytes: &[u8]) -> Call
     }
 }
 
-// The event of a record.
-pub fn event_of(bytes: &[u8]) -> Event
+// The event of a record, in an edition.
+pub fn event_of(bytes: &[u8], edition: u8) -> Event
     requires { ⌜ recordLength ≤ length (now bytes) ⌝ }
-    ensures { λ r. ⌜ r ≡ eventOf (now (bytes .entry)) ⌝ }
+    ensures { λ r. ⌜ r ≡ eventOf (editionAmong laterEditions edition) (now (bytes .entry)) ⌝ }
 {
-    let call = call_of(bytes);
+    let call = call_of(bytes, edition);
     let data = [
         bytes[3],
         bytes[4],

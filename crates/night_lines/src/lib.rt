@@ -8,7 +8,7 @@ ghost use Rattle.model.specs.Work.{early};
 ghost use Rattle.model.specs.Step.{step};
 ghost use Rattle.model.specs.State.{stateWith};
 ghost use Rattle.model.specs.Outcome.{listRoom};
-ghost use Rattle.model.specs.File.{eventOf, recordLength};
+ghost use Rattle.model.specs.File.{laterEditions, editionAmong, eventOf, recordLength};
 ghost use Rattle.night_lines.specs.Lines.{readCount, Turns};
 ghost use Rattle.model.specs.Map.{imageLength};
 ghost use Rattle.model.specs.Text.{decimal};
@@ -50,19 +50,20 @@ fn shown(answer: u8, count: usize) -> usize
     count
 }
 
-// A record's turn: its event, then its line.
+// A record's turn: its event, by the edition of its file, then its line.
 pub fn turn(
     image: &mut [u8],
     reached: Reached,
     buffer: &mut [u8],
     bytes: &[u8],
+    edition: u8,
     index: u32,
     out: &mut [u8],
 ) -> Reached
     requires { ⌜ (length (now image) ≡ imageLength) × (length (now buffer) ≡ readLimit) × (recordLength ≤ length (now bytes)) × (reached .at + lineRoom (length (decimal index)) ≤ length (now out)) ⌝ }
-    ensures { λ r. ⌜ Turns (step early listRoom (stateWith (now (image .entry)) (reached .working)) (eventOf (now (bytes .entry)))) index (reached .at) (now (buffer .entry)) (now (buffer .exit)) (now (out .entry)) (now (out .exit)) (now (image .exit)) r ⌝ }
+    ensures { λ r. ⌜ Turns (step early listRoom (stateWith (now (image .entry)) (reached .working)) (eventOf (editionAmong laterEditions edition) (now (bytes .entry)))) index (reached .at) (now (buffer .entry)) (now (buffer .exit)) (now (out .entry)) (now (out .exit)) (now (image .exit)) r ⌝ }
 {
-    let event = night_file::event_of(bytes);
+    let event = night_file::event_of(bytes, edition);
     let call = event.call;
     let asked = read_count(call);
     let at = reached.at;

@@ -5,7 +5,7 @@ use Prim.Native.Nat.{ℕ, zero, suc, _+_, _≤_, _<_}
 use native.Mathlib.Nat.{add-zero, add-suc, suc-add, zero-add}
 use native.Mathlib.Numerals.{add-one}
 use native.Mathlib.Omega.{arith}
-use lib.ListN.{length}
+use lib.ListN.{length, getD}
 use Rattle.bits.specs.Loop.{tab}
 use Rattle.bits.proofs.Loops.{length-tab}
 use Rattle.model.specs.Answers.{number}
@@ -13,7 +13,7 @@ use Rattle.model.specs.State.{State, stateWith}
 use Rattle.model.specs.Work.{early}
 use Rattle.model.specs.Step.{Stepped, step, run, ending}
 use Rattle.model.specs.Outcome.{listRoom}
-use Rattle.model.specs.File.{recordIn, eventOf, recordLimit}
+use Rattle.model.specs.File.{laterEditions, editionAmong, recordIn, eventOf, recordLimit}
 use Rattle.model.specs.Text.{line}
 use Rattle.model.specs.Night.{linesFrom}
 use Rattle.model.specs.declared.lane.Working.{Working}
@@ -76,9 +76,9 @@ module _ (s : State) (file : List ℕ) (k : ℕ) where
 
   -- a turn of the loop over the records
   module _ (image buffer bufferLeft bytes out after left : List ℕ) (w : Working) (at : ℕ) (r : Reached) (reached : stateWith image w ≡ stateAfter s file k)
-      (part : bytes ≡ recordIn file k) (turned : Turns (step early listRoom (stateWith image w) (eventOf bytes)) k at buffer bufferLeft out after left r) where
+      (edition : ℕ) (named : edition ≡ getD file 2 0) (part : bytes ≡ recordIn file k) (turned : Turns (step early listRoom (stateWith image w) (eventOf (editionAmong laterEditions edition) bytes)) k at buffer bufferLeft out after left r) where
     turns : Turns stepOf k at buffer bufferLeft out after left r
-    turns = rw (reached, part) at turned
+    turns = rw (reached, part, named) at turned
 
     pub turn-state : stateWith left (r .working) ≡ stateAfter s file (k + 1)
     turn-state = (λ i. record { image = turns .registers i; working = turns .lanes i }) ∙ sym state-next

@@ -7,7 +7,7 @@ use Rattle.model.specs.State.{State}
 use Rattle.model.specs.Work.{early}
 use Rattle.model.specs.Step.{run, ending}
 use Rattle.model.specs.Outcome.{listRoom}
-use Rattle.model.specs.File.{recordIn, eventOf}
+use Rattle.model.specs.File.{editionOf, recordIn, eventOf}
 use Rattle.model.specs.Night.{linesFrom}
 use Rattle.model.specs.declared.event.Event.{Event}
 use Rattle.model.specs.declared.file.FileCheck.{FileCheck}
@@ -27,7 +27,7 @@ roomFor (Good count) = lineRoom 4 * count
 
 -- the event of record k of a file
 abbrev pub eventIn : List ℕ → ℕ → Event
-eventIn file k = eventOf (recordIn file k)
+eventIn file k = eventOf (editionOf file) (recordIn file k)
 
 -- the state after the first k records of a file, and the text of these
 unfoldable pub stateAfter : State → List ℕ → ℕ → State

@@ -54,6 +54,7 @@ fn play(
     requires { ⌜ (length (now image) ≡ imageLength) × (length (now buffer) ≡ readLimit) × (offset ≡ recordsOffset (editionOf (now file))) × (offset + recordLength * count ≤ length (now file)) × (count ≤ recordLimit) × (lineRoom 4 * count ≤ length (now out)) ⌝ }
     ensures { λ r. ⌜ Puts 0 (textAfter (stateWith (now (image .entry)) idleWorking) (now (file .entry)) count) (now (out .entry)) (now (out .exit)) r ⌝ }
 {
+    let edition = night_file::edition_in(file);
     let working = Working::idle();
     let mut reached = Reached { at: 0, working };
     for k in 0..count {
@@ -63,6 +64,7 @@ fn play(
             reached,
             buffer,
             &file[at..at + RECORD_LENGTH],
+            edition,
             k,
             out,
         );

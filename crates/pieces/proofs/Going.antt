@@ -95,7 +95,7 @@ going-ended g front b rest d e room =
 -- a whole record
 pub going-record : (g : Going) (next records : ℕ) (bytes rest : List ℕ) → g .carried .phase ≡ InRecords next records → g .carried .held ≡ [] → next < records
     → length bytes ≡ recordLength → isRecord (rowOf (g .carried)) bytes ≡ true → g .printed + longestLine ≤ length (g .out)
-    → going g (bytes ++ rest) ≡ going (afterBytes g recordLength (played (g .carried) next records (step early listRoom (g .carried .state) (eventOf bytes)))) rest
+    → going g (bytes ++ rest) ≡ going (afterBytes g recordLength (played (g .carried) next records (step early listRoom (g .carried .state) (eventOf (rowOf (g .carried)) bytes)))) rest
 going-record g next records bytes rest phase none due l good room =
     let n : length (take 11 bytes) ≡ 11 = length-take-le 11 bytes (omega arith) in
     let e : take 11 bytes ++ (getD bytes 11 0 ∷ []) ≡ bytes = sym (take-suc bytes 11 0 (omega arith)) ∙ take-all 12 bytes (omega arith) in
@@ -104,4 +104,4 @@ going-record g next records bytes rest phase none due l good room =
     ∙ ap (going g) (append-assoc (take 11 bytes) (getD bytes 11 0 ∷ []) rest)
     ∙ going-ended g (take 11 bytes) (getD bytes 11 0) rest _ (record-held (g .carried) next records (take 11 bytes) phase due (omega arith)) room
     ∙ ap (λ (t : Took). going (afterBytes g (suc (length (take 11 bytes))) t) rest) (ap (fed (g .carried)) e ∙ whole-record (g .carried) next records bytes phase none due l good)
-    ∙ ap (λ (k : ℕ). going (afterBytes g (suc k) (played (g .carried) next records (step early listRoom (g .carried .state) (eventOf bytes)))) rest) n
+    ∙ ap (λ (k : ℕ). going (afterBytes g (suc k) (played (g .carried) next records (step early listRoom (g .carried .state) (eventOf (rowOf (g .carried)) bytes)))) rest) n

@@ -3,7 +3,7 @@ use mathlib.Core.List.{List}
 use Prim.Native.Nat.{ℕ, suc, _≤_}
 use native.Mathlib.Omega.{arith}
 use lib.Dec.{eqb, leb, ltb}
-use lib.ListN.{length}
+use lib.ListN.{length, take}
 use Rattle.bits.specs.Choice.{both}
 use Rattle.model.specs.Numbers.{Count, RecordIndex}
 use Rattle.model.specs.Map.{Image}
@@ -58,7 +58,7 @@ module _ (c : Carried) where
   record-fits next records bytes =
       pick-has Fits (ltb next records)
       (λ _. pick-has Fits (ltb (length bytes) recordLength) (λ _. quiet)
-      (λ _. pick-has Fits (isRecord (rowOf c) bytes) (λ _. played-fits c next records (c .state) (eventOf bytes)) (λ _. refused-fits c Malformed)))
+      (λ _. pick-has Fits (isRecord (rowOf c) (take recordLength bytes)) (λ _. played-fits c next records (c .state) (eventOf (rowOf c) (take recordLength bytes))) (λ _. refused-fits c Malformed)))
       (λ _. refused-fits c Malformed)
 
   took-fits : (phase : Phase) (b : ℕ) → Fits (tookIn phase c b)

@@ -19,12 +19,12 @@ use Rattle.model.specs.Step.{step}
 use Rattle.model.specs.Outcome.{listRoom}
 use Rattle.model.specs.Answers.{number}
 use Rattle.model.specs.Text.{line}
-use Rattle.model.specs.File.{laterEditions, editionAmong, recordLength, isRecord, eventOf}
+use Rattle.model.specs.File.{Edition, laterEditions, editionAmong, recordLength, isRecord, eventOf}
 use Rattle.model.specs.Stream as stream
 use Rattle.model.specs.Stream.{Took, silent, played, took, fed}
 use Rattle.model.specs.declared.stream.Phase.{Phase}
 use Rattle.model.specs.declared.stream.Phase.the-variants.{InImage, InRecords, Over}
-use Rattle.model.proofs.Editions.{edition-fits, records-alike}
+use Rattle.model.proofs.Editions.{edition-fits}
 use Rattle.laws_stream.proofs.Stretches.{over-stays, image-held}
 use Rattle.night_text.proofs.Laid.{length-laid, puts-within}
 use Rattle.night_text.proofs.Lines.{length-any-index}
@@ -110,8 +110,11 @@ record Ran (edition records : ℕ) (piece : List ℕ) (r end : Running) : Type 0
   same : going (betweenAt edition records end) (drop (end .taken) piece) ≡ going (betweenAt edition records r) (drop (r .taken) piece)
 
 module _ (edition records : ℕ) (piece : List ℕ) where
+  abbrev row : Edition
+  row = editionAmong laterEditions edition
+
   -- over one record
-  module _ (r : Running) (due : r .next < records) (plays : canPlay r piece ≡ true) where
+  module _ (r : Running) (due : r .next < records) (plays : canPlay row r piece ≡ true) where
     there : r .taken + recordLength ≤ length piece
     unfolding canPlay
     there = leb-true _ _ (both-l _ _ (both-l _ _ plays))
@@ -120,33 +123,33 @@ module _ (edition records : ℕ) (piece : List ℕ) where
     unfolding canPlay
     room = leb-true _ _ (both-r _ _ (both-l _ _ plays))
 
-    good : isRecord (editionAmong laterEditions edition) (recordAt (r .taken) piece) ≡ true
+    good : isRecord row (recordAt (r .taken) piece) ≡ true
     unfolding canPlay
-    good = records-alike edition (recordAt (r .taken) piece) ∙ both-r _ _ plays
+    good = both-r _ _ plays
 
-    record-same : going (betweenAt edition records (afterRecord r piece)) (drop (r .taken + recordLength) piece) ≡ going (betweenAt edition records r) (drop (r .taken) piece)
+    record-same : going (betweenAt edition records (afterRecord row r piece)) (drop (r .taken + recordLength) piece) ≡ going (betweenAt edition records r) (drop (r .taken) piece)
     unfolding afterStep played
     record-same =
         sym (ap (going (betweenAt edition records r)) (some-rest (r .taken) recordLength piece)
         ∙ going-record (betweenAt edition records r) (r .next) records (recordAt (r .taken) piece) (drop (r .taken + recordLength) piece) refl refl due (record-length (r .taken) piece there) good room)
 
-    record-fits : afterRecord r piece .printed ≤ length (afterRecord r piece .out)
+    record-fits : afterRecord row r piece .printed ≤ length (afterRecord row r piece .out)
     unfolding afterStep
     record-fits =
-        let e = eventOf (recordAt (r .taken) piece) in
+        let e = eventOf row (recordAt (r .taken) piece) in
         let text = line (r .next) (number (step early listRoom (r .state) e .answer)) (step early listRoom (r .state) e .bytes) in
         omega (arith, room, line-fits (r .state) e (r .next), length-any-index (r .next), length-laid (r .printed) text (r .out) (omega (arith, room)))
 
   -- over any number of them
-  runs-on : (n : ℕ) (r : Running) → r .next + n ≤ records → r .taken ≤ length piece → r .printed ≤ length (r .out) → Ran edition records piece r (runs n r piece)
+  runs-on : (n : ℕ) (r : Running) → r .next + n ≤ records → r .taken ≤ length piece → r .printed ≤ length (r .out) → Ran edition records piece r (runs row n r piece)
   unfolding runs afterStep
   runs-on zero r most within fits = record { onward = omega arith; within = within; fits = fits; same = refl }
-  runs-on (suc n) r most within fits = split (canPlay r piece)
+  runs-on (suc n) r most within fits = split (canPlay row r piece)
       (λ t.
       let due : r .next < records = omega arith in
-      let g = runs-on n (afterRecord r piece) (omega arith) (there r due t) (record-fits r due t) in
-      rw (pick-true (runs n (afterRecord r piece) piece) r t) (record { onward = omega (arith, g .onward); within = g .within; fits = g .fits; same = g .same ∙ record-same r due t }))
-      (λ t. rw (pick-false (runs n (afterRecord r piece) piece) r t) (record { onward = omega arith; within = within; fits = fits; same = refl }))
+      let g = runs-on n (afterRecord row r piece) (omega arith) (there r due t) (record-fits r due t) in
+      rw (pick-true (runs row n (afterRecord row r piece) piece) r t) (record { onward = omega (arith, g .onward); within = g .within; fits = g .fits; same = g .same ∙ record-same r due t }))
+      (λ t. rw (pick-false (runs row n (afterRecord row r piece) piece) r t) (record { onward = omega arith; within = within; fits = fits; same = refl }))
 
 between-tidy : (edition records : ℕ) (p : Played) → IsTidy (betweenRecords edition records p .carried)
 unfolding kept carriedBy heldIn heldCount betweenRecords padded pick tab
@@ -172,7 +175,7 @@ between-stands f x out next records phase count =
 
 pub records-go : (f r : Feeding) (x left : Image) (piece out after : List ℕ) (next records : ℕ) (p : Played)
     → Stands f piece out → f .carried .phase ≡ InRecords next records → f .carried .count ≡ 0 → next ≤ records
-    → running p left after ≡ runs (records - next) (running (record { taken = f .taken; next = next; at = f .at; working = f .carried .working }) x out) piece
+    → running p left after ≡ runs (editionAmong laterEditions (f .carried .edition)) (records - next) (running (record { taken = f .taken; next = next; at = f .at; working = f .carried .working }) x out) piece
     → r ≡ betweenRecords (f .carried .edition) records p → Goes piece (standing f x out) r left after
 unfolding carriedBy heldIn heldCount betweenRecords pick
 records-go f r x left piece out after next records p s phase count most ran e =

@@ -123,7 +123,7 @@ fn records_ahead(
         at: f.at,
         working,
     };
-    let played = pieces_records::play(image, first, records, piece, out);
+    let played = pieces_records::play(image, first, edition, records, piece, out);
     between(edition, records, played)
 }
 

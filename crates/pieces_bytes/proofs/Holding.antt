@@ -1,27 +1,22 @@
--- Laws of the bytes held of a part that is not whole: how many they are, one byte more, and what is read of them with zeros after them. Assumes nothing.
+-- Laws of the bytes held of a part that is not whole: how many they are, one byte more, and the part when it is whole. Assumes nothing.
 use mathlib.Core.Path.{_≡_, refl, sym, ap, _∙_}
 use mathlib.Core.List.{List, [], _∷_, _++_, append-nil}
 use Prim.Native.Nat.{ℕ, zero, suc, _+_, _-_, _≤_, _<_}
 use native.Mathlib.Omega.{arith}
-use lib.ListN.{length, getD, set, take, drop, length-append, length-take}
-use lib.Seq.{length-take-le, getD-take, set-at, append-snoc}
+use lib.ListN.{length, set, take, drop, length-append, length-take}
+use lib.Seq.{length-take-le, take-append-le, set-at, append-snoc}
 use borrow.Author.Tests.{ltb-true, le-ltb}
 use lib.Dec.{ltb}
-use Rattle.bits.specs.Choice.{pick, both}
+use Rattle.bits.specs.Choice.{pick}
 use Rattle.bits.specs.Loop.{tab}
 use Rattle.bits.proofs.Tests.{split, pick-true, pick-false}
-use Rattle.bits.proofs.Loops.{length-tab, all-ext}
+use Rattle.bits.proofs.Loops.{length-tab}
 use Rattle.model.specs.Map.{Image}
 use Rattle.model.specs.State.{stateWith}
-use Rattle.model.specs.Work.{early}
-use Rattle.model.specs.Step.{step}
-use Rattle.model.specs.Outcome.{listRoom}
-use Rattle.model.specs.File.{firstEdition, writtenBytes, usedBytes, isRecord, callOf, eventOf, recordLength}
+use Rattle.model.specs.File.{recordLength}
 use Rattle.model.specs.Stream as stream
-use Rattle.model.specs.Stream.{refused, played, tookRecord}
-use Rattle.model.specs.declared.answer.Answer.the-variants.{Malformed}
+use Rattle.model.specs.Stream.{judgedRecord, tookRecord}
 use Rattle.model.specs.declared.stream.Phase.{Phase}
-use Rattle.model.proofs.Editions.{records-alike}
 use Rattle.pieces_bytes.specs.Carrying.{heldRoom, heldCount, heldIn, carriedBy, padded, kept, IsTidy}
 use Rattle.pieces_bytes.specs.declared.Carried.{Carried}
 
@@ -104,58 +99,18 @@ tidied-is c l held count n h =
     let p = h ∙ ap (λ z. take (heldCount (c .count)) (c .held) ++ z) z in
     λ i. record { phase = c .phase; edition = c .edition; held = p i; count = (n ∙ m) i; working = c .working }
 
--- ---- what is read of a record does not see the zeros after it
-
-zeros-read : (m j : ℕ) → getD (tab {A = ℕ} m (λ i. 0)) j 0 ≡ 0
-unfolding tab
-zeros-read zero j = refl
-zeros-read (suc m) zero = refl
-zeros-read (suc m) (suc j) = zeros-read m j
-
-after-read : (h : List ℕ) (m j : ℕ) → getD (h ++ tab m (λ i. 0)) j 0 ≡ getD h j 0
-after-read [] m j = zeros-read m j
-after-read (b ∷ h) m zero = refl
-after-read (b ∷ h) m (suc j) = after-read h m j
-
-pub reads-padded : (h : List ℕ) (j : ℕ) → getD (padded h) j 0 ≡ getD h j 0
+-- the zeros are not among the bytes of a whole record ..
+record-front : (h : List ℕ) → recordLength ≤ length h → take recordLength (padded h) ≡ take recordLength h
 unfolding padded
-reads-padded h j = after-read h (heldRoom - length h) j
+record-front h l = take-append-le recordLength h (tab (heldRoom - length h) (λ i. 0)) l
 
--- a record is what is read of its twelve bytes
-module _ (a b : List ℕ) (alike : (j : ℕ) → j < recordLength → getD a j 0 ≡ getD b j 0) where
-  pub record-alike : isRecord firstEdition a ≡ isRecord firstEdition b
-  unfolding isRecord usedBytes writtenBytes
-  record-alike = rw (alike 0 (omega arith), alike 2 (omega arith)) (ap (both _) (all-ext recordLength _ _ (λ j h. rw (alike j h))))
-
-  pub event-alike : eventOf a ≡ eventOf b
-  unfolding eventOf callOf tab
-  event-alike = rw (
-    alike 0 (omega arith),
-    alike 1 (omega arith),
-    alike 2 (omega arith),
-    alike 3 (omega arith),
-    alike 4 (omega arith),
-    alike 5 (omega arith),
-    alike 6 (omega arith),
-    alike 7 (omega arith),
-    alike 8 (omega arith),
-    alike 9 (omega arith),
-    alike 10 (omega arith),
-  )
-
--- the first twelve bytes of some
-pub first-alike : (bytes : List ℕ) (j : ℕ) → j < recordLength → getD (take recordLength (drop 0 bytes)) j 0 ≡ getD bytes j 0
-first-alike bytes j h = getD-take recordLength bytes j 0 h
-
--- so a whole record is judged and played alike
+-- .. by which it is judged and played
 pub took-padded : (m : stream.Carried) (next records : ℕ) (h : List ℕ) → recordLength ≤ length h → length h ≤ heldRoom
     → tookRecord m next records (padded h) ≡ tookRecord m next records h
 unfolding tookRecord
 took-padded m next records h l f = split (ltb next records)
-    (λ due. pick-true _ _ due ∙ pick-false _ _ (le-ltb (length (padded h)) recordLength (omega (arith, length-padded h f)))
-    ∙ (λ i. pick (row-alike i) (played m next records (step early listRoom (m .state) (event-alike (padded h) h (λ j _. reads-padded h j) i))) (refused Malformed m))
-    ∙ sym (pick-true _ _ due ∙ pick-false _ _ (le-ltb _ _ l)))
+    (λ due. pick-true _ _ due
+    ∙ pick-false _ _ (le-ltb (length (padded h)) recordLength (omega (arith, length-padded h f)))
+    ∙ ap (judgedRecord m next records) (record-front h l)
+    ∙ sym (pick-true _ _ due ∙ pick-false _ _ (le-ltb (length h) recordLength l)))
     (λ none. pick-false _ _ none ∙ sym (pick-false _ _ none))
-  where
-    row-alike : isRecord (stream.rowOf m) (padded h) ≡ isRecord (stream.rowOf m) h
-    row-alike = records-alike (m .edition) (padded h) ∙ record-alike (padded h) h (λ j _. reads-padded h j) ∙ sym (records-alike (m .edition) h)

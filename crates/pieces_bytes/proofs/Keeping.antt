@@ -5,7 +5,7 @@ use mathlib.Core.List.{List}
 use Prim.Native.Nat.{ℕ, suc, _-_, _<_}
 use native.Mathlib.Omega.{arith}
 use lib.Dec.{ltb}
-use lib.ListN.{length}
+use lib.ListN.{length, take}
 use lib.Seq.{take-at}
 use borrow.Author.Tests.{lt-ltb, ltb-true}
 use Rattle.bits.specs.Choice.{pick}
@@ -72,7 +72,7 @@ unfolding tookRecord played
 record-short c next records bytes =
     pick-has IsShort (ltb next records)
     (λ _. pick-has IsShort (ltb (length bytes) recordLength) (λ l. let s : length bytes < recordLength = ltb-true _ _ l in record { few = omega arith })
-    (λ _. pick-has IsShort (isRecord (rowOf c) bytes) (λ _. record { few = omega arith }) (λ _. refused-short Malformed c)))
+    (λ _. pick-has IsShort (isRecord (rowOf c) (take recordLength bytes)) (λ _. record { few = omega arith }) (λ _. refused-short Malformed c)))
     (λ _. refused-short Malformed c)
 
 module _ (c : stream.Carried) (short : length (c .held) < heldRoom) where

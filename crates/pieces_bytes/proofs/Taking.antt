@@ -17,13 +17,12 @@ use Rattle.model.specs.Start.{startedState}
 use Rattle.model.specs.Refusals.{firstOf, startRefusals}
 use Rattle.model.specs.Step.{step}
 use Rattle.model.specs.Outcome.{listRoom}
-use Rattle.model.specs.File.{imageOffset, recordCount, isHeader, firstEdition, recordLength, isRecord, eventOf, laidOut}
+use Rattle.model.specs.File.{imageOffset, recordCount, isHeader, recordLength, isRecord, eventOf, laidOut}
 use Rattle.model.specs.Stream.{Carried, countLimit, rowOf, silent, entering, holding, refused, tookHeader, startedBy, wholeImage, tookImage, played, tookRecord, tookIn, took, endedIn, ended}
 use Rattle.model.specs.declared.answer.Answer.{Answer}
 use Rattle.model.specs.declared.answer.Answer.the-variants.{Malformed}
 use Rattle.model.specs.declared.stream.Phase.{Phase}
 use Rattle.model.specs.declared.stream.Phase.the-variants.{InImage, InRecords, Over}
-use Rattle.model.proofs.Editions.{records-alike}
 use Rattle.night_text.specs.Buffer.{Puts}
 use Rattle.night_text.proofs.Laid.{laid-none}
 
@@ -83,14 +82,14 @@ module _ (m : Carried) (next records : ℕ) (bytes : List ℕ) where
     unfolding tookRecord
     record-waits h = pick-true _ _ (lt-ltb _ _ due) ∙ pick-true _ _ (lt-ltb _ _ h)
 
-    pub record-wrong : recordLength ≤ length bytes → isRecord firstEdition bytes ≡ false → tookRecord m next records bytes ≡ refused Malformed m
+    pub record-wrong : recordLength ≤ length bytes → isRecord (rowOf m) (take recordLength bytes) ≡ false → tookRecord m next records bytes ≡ refused Malformed m
     unfolding tookRecord
-    record-wrong h e = pick-true _ _ (lt-ltb _ _ due) ∙ pick-false _ _ (le-ltb _ _ h) ∙ pick-false _ _ (records-alike (m .edition) bytes ∙ e)
+    record-wrong h e = pick-true _ _ (lt-ltb _ _ due) ∙ pick-false _ _ (le-ltb _ _ h) ∙ pick-false _ _ e
 
-    pub record-right : recordLength ≤ length bytes → isRecord firstEdition bytes ≡ true
-        → tookRecord m next records bytes ≡ played m next records (step early listRoom (m .state) (eventOf bytes))
+    pub record-right : recordLength ≤ length bytes → isRecord (rowOf m) (take recordLength bytes) ≡ true
+        → tookRecord m next records bytes ≡ played m next records (step early listRoom (m .state) (eventOf (rowOf m) (take recordLength bytes)))
     unfolding tookRecord
-    record-right h e = pick-true _ _ (lt-ltb _ _ due) ∙ pick-false _ _ (le-ltb _ _ h) ∙ pick-true _ _ (records-alike (m .edition) bytes ∙ e)
+    record-right h e = pick-true _ _ (lt-ltb _ _ due) ∙ pick-false _ _ (le-ltb _ _ h) ∙ pick-true _ _ e
 
 module _ (m : Carried) (next records : ℕ) where
   pub end-whole : both (leb records next) (eqb (length (m .held)) 0) ≡ true → endedIn (InRecords next records) m ≡ silent (entering Over (m .state) m)

@@ -237,7 +237,7 @@ fn take_whole_record(
         at,
         working,
     };
-    let played = pieces_records::play(image, first, next + 1, bytes, out);
+    let played = pieces_records::play(image, first, c.edition, next + 1, bytes, out);
     if played.next == next {
         return refuse(Answer::Malformed, c, out, at);
     }

@@ -11,7 +11,7 @@ use Rattle.model.specs.State.{State, stateWith}
 use Rattle.model.specs.Work.{early}
 use Rattle.model.specs.Step.{Stepped, step}
 use Rattle.model.specs.Outcome.{listRoom}
-use Rattle.model.specs.File.{firstEdition, recordLength, isRecord, eventOf}
+use Rattle.model.specs.File.{Edition, recordLength, isRecord, eventOf}
 use Rattle.model.specs.Text.{line}
 use Rattle.night_text.specs.Buffer.{laidAt, longestLine}
 use Rattle.pieces_records.specs.declared.Played.{Played}
@@ -28,10 +28,10 @@ pub record Running : Type 0 where
 abbrev pub recordAt : ℕ → List ℕ → List ℕ
 recordAt taken bytes = take recordLength (drop taken bytes)
 
--- they are there, the output has room for a longest line, and they are a record
-unfoldable pub canPlay : Running → List ℕ → Bool
-canPlay r bytes =
-    both (both (leb (r .taken + recordLength) (length bytes)) (leb (r .printed + longestLine) (length (r .out)))) (isRecord firstEdition (recordAt (r .taken) bytes))
+-- they are there, the output has room for a longest line, and they are a record of the edition
+unfoldable pub canPlay : Edition → Running → List ℕ → Bool
+canPlay e r bytes =
+    both (both (leb (r .taken + recordLength) (length bytes)) (leb (r .printed + longestLine) (length (r .out)))) (isRecord e (recordAt (r .taken) bytes))
 
 -- a step and its line
 unfoldable pub afterStep : Running → Stepped → Running
@@ -44,13 +44,13 @@ afterStep r o =
       out = laidAt (r .printed) (line (r .next) (number (o .answer)) (o .bytes)) (r .out);
     }
 
-abbrev pub afterRecord : Running → List ℕ → Running
-afterRecord r bytes = afterStep r (step early listRoom (r .state) (eventOf (recordAt (r .taken) bytes)))
+abbrev pub afterRecord : Edition → Running → List ℕ → Running
+afterRecord e r bytes = afterStep r (step early listRoom (r .state) (eventOf e (recordAt (r .taken) bytes)))
 
 -- at most n records
-unfoldable pub runs : ℕ → Running → List ℕ → Running
-runs zero r bytes = r
-runs (suc n) r bytes = pick (canPlay r bytes) (runs n (afterRecord r bytes) bytes) r
+unfoldable pub runs : Edition → ℕ → Running → List ℕ → Running
+runs e zero r bytes = r
+runs e (suc n) r bytes = pick (canPlay e r bytes) (runs e n (afterRecord e r bytes) bytes) r
 
 -- where the code stands, with the image and the output that are lent
 abbrev pub running : Played → Image → List ℕ → Running

@@ -3,6 +3,7 @@ ghost use mathlib.Core.Path.{_≡_};
 ghost use Prim.Native.Nat.{_-_, _≤_};
 ghost use lib.ListN.{length};
 ghost use Rattle.model.specs.Map.{imageLength};
+ghost use Rattle.model.specs.File.{laterEditions, editionAmong};
 ghost use Rattle.pieces_records.specs.Running.{runs, running};
 use access_limits::READ_LIMIT;
 use model::lane::Working;
@@ -32,10 +33,17 @@ fn standing_at(taken: usize, next: u32, reached: Reached) -> Played
     }
 }
 
-// The records up to an index, while they lie whole in the bytes, are well-formed, and the output has room for a longest line.
-pub fn play(image: &mut [u8], p: Played, records: u32, bytes: &[u8], out: &mut [u8]) -> Played
+// The records up to an index, while they lie whole in the bytes, are well-formed in an edition, and the output has room for a longest line.
+pub fn play(
+    image: &mut [u8],
+    p: Played,
+    edition: u8,
+    records: u32,
+    bytes: &[u8],
+    out: &mut [u8],
+) -> Played
     requires { ⌜ (length (now image) ≡ imageLength) × (p .taken ≤ length (now bytes)) × (p .at ≤ length (now out)) × (p .next ≤ records) ⌝ }
-    ensures { λ r. ⌜ running r (now (image .exit)) (now (out .exit)) ≡ runs (records - p .next) (running p (now (image .entry)) (now (out .entry))) (now (bytes .entry)) ⌝ }
+    ensures { λ r. ⌜ running r (now (image .exit)) (now (out .exit)) ≡ runs (editionAmong laterEditions edition) (records - p .next) (running p (now (image .entry)) (now (out .entry))) (now (bytes .entry)) ⌝ }
 {
     let mut buffer = [0u8; READ_LIMIT];
     let mut taken = p.taken;
@@ -46,10 +54,10 @@ pub fn play(image: &mut [u8], p: Played, records: u32, bytes: &[u8], out: &mut [
             return standing_at(taken, k, reached);
         }
         let record = &bytes[taken..taken + RECORD_LENGTH];
-        if !night_file::is_record(record) {
+        if !night_file::is_record(record, edition) {
             return standing_at(taken, k, reached);
         }
-        reached = night_lines::turn(image, reached, &mut buffer, record, k, out);
+        reached = night_lines::turn(image, reached, &mut buffer, record, edition, k, out);
         taken = taken + RECORD_LENGTH;
     }
     standing_at(taken, records, reached)

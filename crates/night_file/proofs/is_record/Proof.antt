@@ -1,4 +1,4 @@
--- `night_file::is_record` meets its contract: each arm's kind picks its count of used bytes. Assumes nothing.
+-- `night_file::is_record` meets its contract: each arm's kind picks its count of used bytes, among the six forms of every edition. Assumes nothing.
 use native.Mathlib.Omega.{arith}
 use mathlib.Core.Path.{ap, _∙_}
 use Prim.Native.Nat.{ℕ}
@@ -6,6 +6,7 @@ use lib.Dec.{eqb}
 use borrow.Author.Tests.{ne-eqb}
 use Rattle.bits.specs.Choice.{pick, both}
 use Rattle.model.specs.File.{writtenBytes, usedBytes, isRecord}
+use Rattle.model.proofs.Editions.{six-forms}
 use Rattle.night_file.proofs.Checks.{record-by, tail-none}
 use borrow.Author.Needs.{needs}
 use Rattle.night_file.proofs.is_record.Statement.{statement}
@@ -14,13 +15,15 @@ use Rattle.night_file.proofs.is_record.Tie as tie
 returns-6 : tie.Need-returns-6
 unfolding usedBytes pick
 returns-6 c =
-    let none = tail-none (c .before .before .before .before .args .bytes .now) (λ i. omega (arith, c .before .before .before .shared-slice-known .given i)) in
-    record-by _ _ _ (ap (λ (t : ℕ). eqb t 0) (c .before .before .tail-of .ensures) ∙ none) (rw (c .match .keys6)) (omega arith)
+    let a = c .before .before .before .before .args in
+    let none = tail-none (a .bytes .now) (λ i. omega (arith, c .before .before .before .shared-slice-known .given i)) in
+    record-by _ _ _ _ (ap (λ (t : ℕ). eqb t 0) (c .before .before .tail-of .ensures) ∙ none) (rw (six-forms (a .edition) .forms, c .match .keys6)) (omega arith)
 
 returns-7 : tie.Need-returns-7
 unfolding isRecord usedBytes pick both
 returns-7 c =
     rw (
+      six-forms (c .before .before .before .before .args .edition) .forms,
       ne-eqb _ _ (c .match .rest .0 .0 .0 .0 .0 .1),
       ne-eqb _ _ (c .match .rest .0 .0 .0 .0 .1),
       ne-eqb _ _ (c .match .rest .0 .0 .0 .1),
@@ -41,10 +44,10 @@ is-record-spec =
     (λ c κs. search needs)
     (λ c κs. search needs)
     (λ c κs. search needs)
-    (λ c. record-by _ _ _ (c .is-write .ensures) (rw (c .before .match .keys1)) (omega arith))
-    (λ c. record-by _ _ _ (c .is-clear-from-3 .ensures) (rw (c .before .match .keys2)) (omega arith))
-    (λ c. record-by _ _ _ (c .is-clear-from-2 .ensures) (rw (c .before .match .keys3)) (omega arith))
-    (λ c. record-by _ _ _ (c .is-clear-from-22 .ensures) (rw (c .before .match .keys4)) (omega arith))
-    (λ c. record-by _ _ _ (c .is-clear-from-32 .ensures) (rw (c .before .match .keys5)) (omega arith))
+    (λ c. record-by _ _ _ _ (c .is-write .ensures) (rw (six-forms (c .before .before .before .before .before .args .edition) .forms, c .before .match .keys1)) (omega arith))
+    (λ c. record-by _ _ _ _ (c .is-clear-from-3 .ensures) (rw (six-forms (c .before .before .before .before .before .args .edition) .forms, c .before .match .keys2)) (omega arith))
+    (λ c. record-by _ _ _ _ (c .is-clear-from-2 .ensures) (rw (six-forms (c .before .before .before .before .before .args .edition) .forms, c .before .match .keys3)) (omega arith))
+    (λ c. record-by _ _ _ _ (c .is-clear-from-22 .ensures) (rw (six-forms (c .before .before .before .before .before .args .edition) .forms, c .before .match .keys4)) (omega arith))
+    (λ c. search needs)
     returns-6
     returns-7)

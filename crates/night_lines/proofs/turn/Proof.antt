@@ -10,7 +10,7 @@ use Rattle.model.specs.Step.{step}
 use Rattle.model.specs.State.{State, stateWith}
 use Rattle.model.specs.Outcome.{listRoom, stepOutcome}
 use Rattle.contracts.specs.Contracts.{IsOutcome}
-use Rattle.model.specs.File.{eventOf}
+use Rattle.model.specs.File.{laterEditions, editionAmong, eventOf}
 use Rattle.contracts.specs.declared.Returned.{Returned}
 use Rattle.model.specs.declared.event.Event.{Event}
 use lib.Dec.{eqb}
@@ -38,7 +38,7 @@ unfolding stepOutcome
 put-line-requires c κs =
     let a = c .before .before .before .before .before .before .before .before .before .before .before .before .before .before .before .before .before .before .args in
     let s = stateWith (a .image .now) (a .reached .working) in
-    let e = eventOf (a .bytes .now) in
+    let e = eventOf (editionAmong laterEditions (a .edition)) (a .bytes .now) in
     let l = stepped s _ e (a .buffer .now) (c .before .before .before .before .before .before .before .before .before .before .before .before .before .event-of .ensures) (omega arith) (c .before .before .before .before .before .before .before .before .before .step .ensures) in
     let n = c .before .before .before .number .ensures ∙ ap number (l .answer) in
     let m = shown-by (c .before .before .before .number .result) _ e (c .before .before .shown .ensures) (c .before .before .before .before .before .before .before .before .before .before .before .before .read-count .ensures) (c .before .before .before .before .before .before .before .before .before .before .before .before .before .event-of .ensures) in (
@@ -51,7 +51,7 @@ unfolding stepOutcome
 returns c =
     let a = c .before .before .before .before .before .before .before .before .before .before .before .before .before .before .before .before .before .before .before .before .before .args in
     let s = stateWith (a .image .now) (a .reached .working) in
-    let e = eventOf (a .bytes .now) in
+    let e = eventOf (editionAmong laterEditions (a .edition)) (a .bytes .now) in
     let l = stepped s _ e (a .buffer .now) (c .before .before .before .before .before .before .before .before .before .before .before .before .before .before .before .before .event-of .ensures) (omega arith) (c .before .before .before .before .before .before .before .before .before .before .before .before .step .ensures) in
     let n = c .before .before .before .before .before .before .number .ensures ∙ ap number (l .answer) in
     let m = shown-by (c .before .before .before .before .before .before .number .result) _ e (c .before .before .before .before .before .shown .ensures) (c .before .before .before .before .before .before .before .before .before .before .before .before .before .before .before .read-count .ensures) (c .before .before .before .before .before .before .before .before .before .before .before .before .before .before .before .before .event-of .ensures) in

@@ -9,6 +9,7 @@ use borrow.Author.Tests.{not-true, not-false}
 use Rattle.model.specs.Map.{Image, imageLength}
 use Rattle.model.specs.Access.{readLimit}
 use Rattle.model.specs.State.{stateWith}
+use Rattle.model.specs.File.{Edition, laterEditions, editionAmong}
 use Rattle.night_file.proofs.Checks.{part-from}
 use Rattle.night_text.proofs.Laid.{puts-within}
 use Rattle.night_text.proofs.Lines.{length-any-index}
@@ -21,13 +22,13 @@ use Rattle.pieces_records.proofs.play.Statement.{statement}
 use Rattle.pieces_records.proofs.play.Tie as tie
 
 abbrev Inv-loop : tie.InvT-loop
-Inv-loop image₀ records bytes out₀ buffer₀ taken₀ reached₀ k₀ image out buffer taken reached k =
+Inv-loop image₀ edition records bytes out₀ buffer₀ taken₀ reached₀ k₀ image out buffer taken reached k =
     (k ≤ records) × (length image ≡ imageLength) × (length buffer ≡ readLimit) × (length out ≡ length out₀) × (taken ≤ length bytes) × (reached .at ≤ length out)
-    × (runs (records - k) (record { taken = taken; next = k; printed = reached .at; state = stateWith image (reached .working); out = out }) bytes
-    ≡ runs (records - k₀) (record { taken = taken₀; next = k₀; printed = reached₀ .at; state = stateWith image₀ (reached₀ .working); out = out₀ }) bytes)
+    × (runs (editionAmong laterEditions edition) (records - k) (record { taken = taken; next = k; printed = reached .at; state = stateWith image (reached .working); out = out }) bytes
+    ≡ runs (editionAmong laterEditions edition) (records - k₀) (record { taken = taken₀; next = k₀; printed = reached₀ .at; state = stateWith image₀ (reached₀ .working); out = out₀ }) bytes)
 
 abbrev μ-loop : tie.MeasureT-loop
-μ-loop image₀ records bytes out₀ buffer₀ taken₀ reached₀ k₀ image out buffer taken reached k = records - k
+μ-loop image₀ edition records bytes out₀ buffer₀ taken₀ reached₀ k₀ image out buffer taken reached k = records - k
 
 loop-holds : tie.Need-loop-holds Inv-loop μ-loop
 loop-holds c = (search needs, search needs, refl, refl, search needs, search needs, refl)
@@ -37,16 +38,16 @@ abbrev stood : Image → List ℕ → ℕ → Reached → ℕ → Running
 stood image out taken reached k = record { taken = taken; next = k; printed = reached .at; state = stateWith image (reached .working); out = out }
 
 -- it stops where the next record cannot be played
-stopped : (n : ℕ) (r : Running) (bytes : List ℕ) {p : Played} {x : Image} {out : List ℕ} {end : Running} → running p x out ≡ r → canPlay r bytes ≡ false → runs n r bytes ≡ end
+stopped : (e : Edition) (n : ℕ) (r : Running) (bytes : List ℕ) {p : Played} {x : Image} {out : List ℕ} {end : Running} → running p x out ≡ r → canPlay e r bytes ≡ false → runs e n r bytes ≡ end
     → running p x out ≡ end
-stopped n r bytes e f g = e ∙ sym (run-stops r bytes n f) ∙ g
+stopped e n r bytes p f g = p ∙ sym (run-stops e r bytes n f) ∙ g
 
 returns : tie.Need-returns Inv-loop μ-loop
 returns c =
     let l = c .before .before .before .before .loop in
     let bytes = c .before .before .before .before .before .before .before .before .before .args .bytes .now in
     let r = stood (l .image) (l .out) (l .taken) (l .reached) (l .k) in
-    stopped _ r bytes (ap (λ (p : Played). running p (l .image) (l .out)) (c .standing-at .ensures)) (lacks r bytes (l .inv .4) (l .inv .5) (c .before .if1 .taken)) (l .inv .6)
+    stopped _ _ r bytes (ap (λ (p : Played). running p (l .image) (l .out)) (c .standing-at .ensures)) (lacks _ r bytes (l .inv .4) (l .inv .5) (c .before .if1 .taken)) (l .inv .6)
 
 part-record-end : tie.Need-part-record-end Inv-loop μ-loop
 part-record-end c =
@@ -60,7 +61,7 @@ returns-2 c =
     let bytes = c .before .before .before .before .before .before .before .before .before .before .before .before .args .bytes .now in
     let r = stood (l .image) (l .out) (l .taken) (l .reached) (l .k) in
     let wrong = sym (c .before .before .is-record .ensures) ∙ not-true _ (c .before .if2 .taken) in
-    stopped _ r bytes (ap (λ (p : Played). running p (l .image) (l .out)) (c .standing-at2 .ensures)) (malformed r bytes (rw (part-from (l .taken) bytes) at wrong)) (l .inv .6)
+    stopped _ _ r bytes (ap (λ (p : Played). running p (l .image) (l .out)) (c .standing-at2 .ensures)) (malformed _ r bytes (rw (part-from (l .taken) bytes) at wrong)) (l .inv .6)
 
 turn-requires : tie.Need-turn-requires Inv-loop μ-loop
 turn-requires c κs =
@@ -73,22 +74,23 @@ loop-again : tie.Need-loop-again Inv-loop μ-loop
 loop-again c =
     let a = c .before .before .before .before .before .before .before .before .before .before .before .before .before .before .before .before .before .before .before .before .args in
     let bytes = a .bytes .now in
+    let e = editionAmong laterEditions (a .edition) in
     let l = c .before .before .before .before .before .before .before .before .before .before .before .before .before .before .before .loop in
     let i = l .inv in
     let t = c .before .before .before .before .before .turn in
     let r = stood (l .image) (l .out) (l .taken) (l .reached) (l .k) in
     let h = enough r bytes (i .4) (i .5) (c .before .before .before .before .before .before .before .before .before .before .before .before .if1 .left) in
     let good = sym (c .before .before .before .before .before .before .before .before .before .before .is-record .ensures) ∙ not-false _ (c .before .before .before .before .before .before .before .before .before .if2 .left) in
-    let e : a .records - l .k ≡ suc (a .records - (l .k + 1)) = omega arith in (
+    let n : a .records - l .k ≡ suc (a .records - (l .k + 1)) = omega arith in (
       omega arith,
       t .kept .0 ∙ i .1,
       t .kept .1 .1 .0 ∙ i .2,
-      t .kept .1 .1 .1 .1 .1 .0 ∙ i .3,
+      t .kept .1 .1 .1 .1 .1 .1 .0 ∙ i .3,
       h .0,
-      puts-within (omega arith) (t .kept .1 .1 .1 .1 .1 .0) (t .ensures .text),
-      ap (λ (r : Running). runs (a .records - (l .k + 1)) r bytes) (sym (after-turn (l .taken) (l .k) (l .reached) (t .result) (l .image) _ _ _ (l .out) _ _ (rw (part-from (l .taken) bytes) at (t .ensures))))
-          ∙ sym (run-plays r bytes _ (plays r bytes (h .0) (h .1) (rw (part-from (l .taken) bytes) at good)))
-          ∙ (rw e at (i .6)),
+      puts-within (omega arith) (t .kept .1 .1 .1 .1 .1 .1 .0) (t .ensures .text),
+      ap (λ (r : Running). runs e (a .records - (l .k + 1)) r bytes) (sym (after-turn e (l .taken) (l .k) (l .reached) (t .result) (l .image) _ _ _ (l .out) _ _ (rw (part-from (l .taken) bytes) at (t .ensures))))
+          ∙ sym (run-plays e r bytes _ (plays e r bytes (h .0) (h .1) (rw (part-from (l .taken) bytes) at good)))
+          ∙ (rw n at (i .6)),
     )
 
 returns-3 : tie.Need-returns-3 Inv-loop μ-loop
