@@ -23,7 +23,6 @@ use Rattle.model.specs.Outcome.{laidOver, listRoom}
 use Rattle.model.specs.Text.{decimal, line}
 use Rattle.model.specs.Records.{stageAt}
 use Rattle.model.specs.declared.answer.Answer.{Answer}
-use Rattle.model.specs.declared.answer.Answer.the-variants.{Done, WrongLength, FlatMemory, Unsound, BadAccess, ShortBuffer, NothingOnLane, Busy, NoSuchTarget, Malformed, BackToFront}
 use Rattle.model.specs.declared.event.Call.{Call}
 use Rattle.model.specs.declared.event.Call.the-variants.{Write, Read, Work, Hardware, Condition, Sample}
 use Rattle.model.specs.declared.event.Event.{Event}
@@ -126,20 +125,6 @@ event-digit room s (Sample l p) = digit-or _ _ _ (omega arith) none-digit
 
 step-digit : (room : ℕ) (s : State) (e : Event) → number (step early room s e .answer) < 10
 step-digit room s e = rw (step-answer room s e) (event-digit room s (e .call))
-
--- every answer's number has at most two digits
-pub number-lt : (a : Answer) → number a < 100
-number-lt Done = omega arith
-number-lt WrongLength = omega arith
-number-lt FlatMemory = omega arith
-number-lt Unsound = omega arith
-number-lt BadAccess = omega arith
-number-lt ShortBuffer = omega arith
-number-lt NothingOnLane = omega arith
-number-lt Busy = omega arith
-number-lt NoSuchTarget = omega arith
-number-lt Malformed = omega arith
-number-lt BackToFront = omega arith
 
 -- how long the line of a step is at most
 pub line-fits : (s : State) (e : Event) (k : ℕ) → length (line k (number (step early listRoom s e .answer)) (step early listRoom s e .bytes)) ≤ lineRoom (length (decimal k))

@@ -15,10 +15,9 @@ use Rattle.model.specs.Text.{line}
 use Rattle.model.specs.Night.{linesFrom, printedText}
 use Rattle.model.specs.declared.file.FileCheck.{FileCheck}
 use Rattle.model.specs.declared.file.FileCheck.the-variants.{Refused, Good}
-use Rattle.night_text.proofs.Lines.{bad-most}
+use Rattle.night_text.proofs.Lines.{bad-most, number-lt}
 use Rattle.night_replay.specs.Replay.{roomFor, textAfter}
 use Rattle.night_replay.proofs.Files.{good-file, prints-refused, prints-night}
-use Rattle.night_lines.proofs.ReadBytes.{number-lt}
 use Rattle.night_replay.proofs.Records.{stepOf, text-next, night-line-fits}
 
 -- 391 bytes a record

@@ -6,7 +6,10 @@ use native.Mathlib.Omega.{arith}
 use native.Mathlib.Numerals.{add-one}
 use lib.ListN.{length, getD, take, length-append}
 use lib.Seq.{length-take-le, take-suc, append-snoc}
+use Rattle.model.specs.Answers.{number}
 use Rattle.model.specs.Text.{ascii, newline, space, digitText, decimal, hexBytes, line, badLine}
+use Rattle.model.specs.declared.answer.Answer.{Answer}
+use Rattle.model.specs.declared.answer.Answer.the-variants.{Done, WrongLength, FlatMemory, Unsound, BadAccess, ShortBuffer, NothingOnLane, Busy, NoSuchTarget, Malformed, BackToFront}
 use Rattle.night_text.specs.Buffer.{laidAt, lineRoom}
 use Rattle.night_text.proofs.Laid.{laid-append}
 use Rattle.night_text.proofs.Decimals.{count-last, count-most, count-up-to}
@@ -68,6 +71,20 @@ line-room k a n bs h = rw (length-line k a (take n bs), length-take-le n bs h)
 pub bad-room : (a : ℕ) → length (badLine a) ≡ length (decimal a) + 5
 unfolding badLine ascii
 bad-room a = simp length-append (omega arith)
+
+-- every answer's number has at most two digits
+pub number-lt : (a : Answer) → number a < 100
+number-lt Done = omega arith
+number-lt WrongLength = omega arith
+number-lt FlatMemory = omega arith
+number-lt Unsound = omega arith
+number-lt BadAccess = omega arith
+number-lt ShortBuffer = omega arith
+number-lt NothingOnLane = omega arith
+number-lt Busy = omega arith
+number-lt NoSuchTarget = omega arith
+number-lt Malformed = omega arith
+number-lt BackToFront = omega arith
 
 -- the line of a file that is not replayed
 pub bad-most : (a : ℕ) → a < 100 → length (badLine a) ≤ 7

@@ -14,10 +14,10 @@ use Rattle.model.specs.Refusals.{firstOf, wrongLength}
 use Rattle.model.specs.Stream.{ended}
 use Rattle.model.specs.declared.answer.Answer.{Answer}
 use Rattle.model.specs.declared.answer.Answer.the-variants.{Done, WrongLength, ShortBuffer}
-use Rattle.pieces_bytes.specs.Carrying.{carriedBy, kept, IsTidy, Leaves}
+use Rattle.pieces_carried.specs.Carrying.{carriedBy, kept, IsTidy, Leaves}
 use Rattle.night_text.specs.Buffer.{longestLine}
-use Rattle.pieces_bytes.specs.declared.Carried.{Carried}
-use Rattle.pieces_bytes.specs.declared.Taken.{Taken}
+use Rattle.pieces_carried.specs.declared.Carried.{Carried}
+use Rattle.pieces_carried.specs.declared.Taken.{Taken}
 use Rattle.pieces.specs.declared.Fed.{Fed}
 use Rattle.pieces.specs.declared.Feeding.{Feeding}
 use Rattle.pieces.specs.Feeding.{going, atFirst, standing, IsFed, FeedLeft, unchanged, leftAt, outRefusals, feedRefusals, feedLeftBy, feedLeft, atEnd, endLeftBy, endLeft}

@@ -20,8 +20,8 @@ use Rattle.model.specs.declared.answer.Answer.the-variants.{Malformed}
 use Rattle.model.specs.declared.event.Event.{Event}
 use Rattle.model.specs.declared.stream.Phase.{Phase}
 use Rattle.model.specs.declared.stream.Phase.the-variants.{InHeader, InImage, InRecords, Over}
-use Rattle.night_text.proofs.Lines.{bad-most, length-any-index}
-use Rattle.night_lines.proofs.ReadBytes.{number-lt, line-fits}
+use Rattle.night_text.proofs.Lines.{bad-most, number-lt, length-any-index}
+use Rattle.night_lines.proofs.ReadBytes.{line-fits}
 use Rattle.night_text.specs.Buffer.{longestLine}
 use Rattle.pieces_bytes.proofs.Keeping.{pick-has}
 

@@ -32,11 +32,11 @@ use Rattle.night_lines.proofs.ReadBytes.{line-fits}
 use Rattle.pieces_records.specs.Running.{Running, recordAt, canPlay, afterStep, afterRecord, runs, running}
 use Rattle.pieces_records.specs.declared.Played.{Played}
 use Rattle.pieces_records.proofs.Runs.{record-length}
-use Rattle.pieces_bytes.specs.Carrying.{heldRoom, heldCount, heldIn, carriedBy, padded, kept, IsTidy, Leaves}
+use Rattle.pieces_carried.specs.Carrying.{heldRoom, heldCount, heldIn, carriedBy, padded, kept, IsTidy, Leaves}
 use Rattle.night_text.specs.Buffer.{longestLine}
-use Rattle.pieces_bytes.specs.declared.Carried.{Carried}
-use Rattle.pieces_bytes.specs.declared.Taken.{Taken}
-use Rattle.pieces_bytes.proofs.Holding.{held-short, tidy-phase}
+use Rattle.pieces_carried.specs.declared.Carried.{Carried}
+use Rattle.pieces_carried.specs.declared.Taken.{Taken}
+use Rattle.pieces_carried.proofs.Holding.{held-short, tidy-phase}
 use Rattle.pieces_bytes.proofs.Keeping.{kept-back, kept-tidy, took-short}
 use Rattle.pieces.specs.declared.Feeding.{Feeding}
 use Rattle.pieces.specs.Feeding.{Going, afterByte, going, atFirst, standing, betweenRecords, Stands, Goes}

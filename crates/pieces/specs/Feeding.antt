@@ -15,8 +15,8 @@ use Rattle.model.specs.declared.answer.Answer.the-variants.{WrongLength, ShortB
 use Rattle.night_text.specs.Buffer.{laidAt, longestLine}
 use Rattle.model.specs.declared.stream.Phase.the-variants.{InRecords}
 use Rattle.pieces_records.specs.declared.Played.{Played}
-use Rattle.pieces_bytes.specs.Carrying.{carriedBy, padded, kept, IsTidy}
-use Rattle.pieces_bytes.specs.declared.Carried.{Carried}
+use Rattle.pieces_carried.specs.Carrying.{carriedBy, padded, kept, IsTidy}
+use Rattle.pieces_carried.specs.declared.Carried.{Carried}
 use Rattle.pieces.specs.declared.Fed.{Fed}
 use Rattle.pieces.specs.declared.Feeding.{Feeding}
 

@@ -6,13 +6,13 @@ ghost use lib.ListN.{length};
 ghost use Rattle.model.specs.Map.{imageLength};
 ghost use Rattle.model.specs.Stream.{begun};
 ghost use Rattle.model.specs.declared.stream.Phase.the-variants as phase;
-ghost use Rattle.pieces_bytes.specs.Carrying.{carriedBy, kept, IsTidy};
+ghost use Rattle.pieces_carried.specs.Carrying.{carriedBy, kept, IsTidy};
 ghost use Rattle.night_text.specs.Buffer.{longestLine};
 ghost use Rattle.pieces.specs.Feeding.{atFirst, going, feedLeft, endLeft, IsFed, standing, betweenRecords, Stands, Goes, GoesSilently};
 use map::IMAGE_LENGTH;
 use model::answer::Answer;
 use model::stream::Phase;
-use pieces_bytes::Carried;
+use pieces_carried::Carried;
 use pieces_records::LONGEST_LINE;
 use pieces_records::Played;
 
@@ -35,7 +35,7 @@ pub struct Feeding {
 pub fn begin() -> Carried
     ensures { λ r. ⌜ r ≡ kept (begun []) ⌝ }
 {
-    pieces_bytes::begun()
+    pieces_carried::begun()
 }
 
 // How many bytes of an image of a length are copied: those that are there, but not the image's last.
@@ -202,7 +202,7 @@ fn take_piece(image: &mut [u8], carried: Carried, piece: &[u8], out: &mut [u8]) 
     requires { ⌜ length (now image) ≡ imageLength ⌝ }
     ensures { λ r. ⌜ IsTidy (r .carried) × (standing r (now (image .exit)) (now (out .exit)) ≡ going (atFirst (carriedBy carried (now (image .entry))) (now (out .entry))) (now (piece .entry))) ⌝ }
 {
-    let carried = pieces_bytes::tidied(carried);
+    let carried = pieces_carried::tidied(carried);
     let first = Feeding {
         taken: 0,
         at: 0,
@@ -254,8 +254,8 @@ pub fn finish(carried: Carried, out: &mut [u8]) -> Fed
     if out.len() < LONGEST_LINE {
         return refused(Answer::ShortBuffer, carried);
     }
-    let c = pieces_bytes::tidied(carried);
-    let t = pieces_bytes::end(c, out);
+    let c = pieces_carried::tidied(carried);
+    let t = pieces_carried::end(c, out);
     let carried = t.carried;
     Fed {
         answer: Answer::Done,

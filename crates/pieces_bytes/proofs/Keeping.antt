@@ -21,7 +21,7 @@ use Rattle.model.specs.declared.answer.Answer.{Answer}
 use Rattle.model.specs.declared.answer.Answer.the-variants.{Malformed}
 use Rattle.model.specs.declared.stream.Phase.{Phase}
 use Rattle.model.specs.declared.stream.Phase.the-variants.{InHeader, InImage, InRecords, Over}
-use Rattle.pieces_bytes.specs.Carrying.{heldRoom, heldCount, heldIn, carriedBy, padded, kept, IsTidy}
+use Rattle.pieces_carried.specs.Carrying.{heldRoom, heldCount, heldIn, carriedBy, padded, kept, IsTidy}
 
 module _ (m : stream.Carried) (short : length (m .held) < heldRoom) where
   kept-held : heldIn (kept m) ≡ m .held

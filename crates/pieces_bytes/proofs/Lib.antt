@@ -1,5 +1,4 @@
--- The laws of what is held and kept, and of what a byte brings.
-pub mod Holding
+-- The laws of what is kept, and of what a byte brings.
 pub mod Keeping
 pub mod Playing
 pub mod Taking

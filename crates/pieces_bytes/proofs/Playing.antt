@@ -19,9 +19,9 @@ use Rattle.night_text.specs.Buffer.{longestLine}
 use Rattle.pieces_records.specs.Running.{Running, afterStep, runs, running}
 use Rattle.pieces_records.specs.declared.Played.{Played}
 use Rattle.pieces_records.proofs.Runs.{run-stops, run-plays, plays, malformed}
-use Rattle.pieces_bytes.specs.Carrying.{carriedBy, padded, kept, Leaves, LeavesOfAny}
-use Rattle.pieces_bytes.specs.declared.Carried.{Carried}
-use Rattle.pieces_bytes.specs.declared.Taken.{Taken}
+use Rattle.pieces_carried.specs.Carrying.{carriedBy, padded, kept, Leaves, LeavesOfAny}
+use Rattle.pieces_carried.specs.declared.Carried.{Carried}
+use Rattle.pieces_carried.specs.declared.Taken.{Taken}
 use Rattle.pieces_bytes.proofs.Taking.{record-wrong, record-right}
 
 module _ (c : Carried) (x left : Image) (next records at : ℕ) (bytes out after : List ℕ) (p : Played)

@@ -6,7 +6,7 @@ ghost use Rattle.model.specs.Map.{imageLength};
 ghost use Rattle.night_text.specs.Buffer.{longestLine};
 use libc::STDOUT_FILENO;
 use pieces::Fed;
-use pieces_bytes::Carried;
+use pieces_carried::Carried;
 
 // One feed, and its lines. It takes a byte at least.
 fn print_feed(image: &mut [u8], carried: Carried, piece: &[u8], out: &mut [u8]) -> Fed

@@ -8,7 +8,7 @@ ghost use Rattle.night_text.specs.Buffer.{longestLine};
 use libc::STDERR_FILENO;
 use libc::STDIN_FILENO;
 use map::IMAGE_LENGTH;
-use pieces_bytes::Carried;
+use pieces_carried::Carried;
 
 // The longest piece, and the output.
 const PIECE: usize = 65536;

@@ -3,9 +3,8 @@ use mathlib.Core.Path.{sym}
 use native.Mathlib.Omega.{arith}
 use lib.Seq.{length-take-le}
 use Rattle.model.specs.Answers.{number}
-use Rattle.night_text.proofs.Lines.{bad-most}
+use Rattle.night_text.proofs.Lines.{bad-most, number-lt}
 use Rattle.night_text.proofs.Laid.{puts-within}
-use Rattle.night_lines.proofs.ReadBytes.{number-lt}
 use borrow.Author.Needs.{needs}
 use Rattle.night.proofs.print_bad.Statement.{statement}
 use Rattle.night.proofs.print_bad.Tie as tie

@@ -1,8 +1,7 @@
 -- `night_replay::print_bad` meets its contract. Assumes nothing.
 use native.Mathlib.Omega.{arith}
 use Rattle.model.specs.Answers.{number}
-use Rattle.night_text.proofs.Lines.{bad-most}
-use Rattle.night_lines.proofs.ReadBytes.{number-lt}
+use Rattle.night_text.proofs.Lines.{bad-most, number-lt}
 use Rattle.night_replay.proofs.Buffers.{gives-none, gives-text}
 use borrow.Author.Needs.{needs}
 use Rattle.night_replay.proofs.print_bad.Statement.{statement}

@@ -1,7 +1,7 @@
 -- `pieces::between` meets its contract: zeros are what is kept of no bytes. Assumes nothing.
 use mathlib.Core.Path.{refl}
 use Rattle.bits.specs.Loop.{tab}
-use Rattle.pieces_bytes.specs.Carrying.{padded}
+use Rattle.pieces_carried.specs.Carrying.{padded}
 use Rattle.pieces.specs.Feeding.{betweenRecords}
 use Rattle.pieces.proofs.between.Statement.{statement}
 use Rattle.pieces.proofs.between.Tie as tie

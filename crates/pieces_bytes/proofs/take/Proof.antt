@@ -2,8 +2,9 @@
 use mathlib.Core.Path.{refl}
 use Rattle.model.specs.Stream.{tookIn}
 use Rattle.model.specs.declared.stream.Phase.the-variants.{InHeader, Over}
-use Rattle.pieces_bytes.specs.Carrying.{carriedBy, kept}
-use Rattle.pieces_bytes.proofs.Taking.{puts-none, took-at}
+use Rattle.pieces_carried.specs.Carrying.{carriedBy, kept}
+use Rattle.pieces_carried.proofs.Ending.{puts-none}
+use Rattle.pieces_bytes.proofs.Taking.{took-at}
 use borrow.Author.Needs.{needs}
 use Rattle.pieces_bytes.proofs.take.Statement.{statement}
 use Rattle.pieces_bytes.proofs.take.Tie as tie

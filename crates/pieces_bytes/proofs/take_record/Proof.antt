@@ -5,9 +5,10 @@ use mathlib.Core.List.{[], _∷_, _++_}
 use Prim.Native.Nat.{_≤_, _<_}
 use lib.ListN.{length, length-append, length-set}
 use Rattle.model.specs.File.{recordLength}
-use Rattle.pieces_bytes.specs.Carrying.{heldRoom, heldIn, carriedBy}
-use Rattle.pieces_bytes.proofs.Holding.{held-short, tidy-count, tidy-length, tidy-set, took-padded}
-use Rattle.pieces_bytes.proofs.Taking.{puts-none, record-none, record-waits}
+use Rattle.pieces_carried.specs.Carrying.{heldRoom, heldIn, carriedBy}
+use Rattle.pieces_carried.proofs.Holding.{held-short, tidy-count, tidy-length, tidy-set, took-padded}
+use Rattle.pieces_carried.proofs.Ending.{puts-none}
+use Rattle.pieces_bytes.proofs.Taking.{record-none, record-waits}
 use borrow.Author.Needs.{needs}
 use Rattle.pieces_bytes.proofs.take_record.Statement.{statement}
 use Rattle.pieces_bytes.proofs.take_record.Tie as tie

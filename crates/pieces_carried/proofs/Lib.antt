@@ -1,0 +1,3 @@
+-- The laws of what is held, and of the end.
+pub mod Holding
+pub mod Ending
