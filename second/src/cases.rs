@@ -244,6 +244,247 @@ fn flags_are_cleared_after_their_value_is_taken() {
     assert_eq!(bench.image[3], 0x07);
 }
 
+// ---- flags that stay true ----
+
+/// The usual module with limits of received power at 1000h (low) and 2000h
+/// (high), page 11h selected.
+fn watched() -> Bench {
+    let limits = with_limits(usual_image(), 0x1000, 0x1000, 0x2000, 0x2000);
+    let mut bench = Bench::of(limits);
+    bench.write(127, &[0x11]);
+    bench
+}
+
+impl Bench {
+    fn one_time(&mut self, flag_byte: u8, mask: u8) -> u8 {
+        self.event(Event::Condition { flag_byte, mask }).answer
+    }
+
+    fn lasting(&mut self, flag_byte: u8, on: u8, off: u8) -> u8 {
+        self.event(Event::LastingCondition { flag_byte, on, off }).answer
+    }
+
+    fn sample(&mut self, lane: u8, value: u16) {
+        assert_eq!(self.event(Event::Sample { lane, value }).answer, 0);
+    }
+
+    /// What two reads of the same bytes give, one after the other.
+    fn twice(&mut self, address: u8, count: u8) -> [Vec<u8>; 2] {
+        [self.shown(address, count), self.shown(address, count)]
+    }
+}
+
+#[test]
+fn a_condition_lasts_till_it_is_ended() {
+    let mut bench = watched();
+    assert_eq!(bench.lasting(135, 0x0F, 0x00), 0);
+    assert_eq!(bench.twice(135, 1), [[0x0F], [0x0F]]);
+    assert_eq!(bench.shown(3, 1), [0x06]);
+    assert_eq!(bench.lasting(135, 0x30, 0x3C), 0);
+    assert_eq!(bench.twice(135, 1), [[0x3F], [0x33]]);
+    // Its end clears no flag.
+    assert_eq!(bench.lasting(135, 0x00, 0xFF), 0);
+    assert_eq!(bench.shown(3, 1), [0x06]);
+    assert_eq!(bench.twice(135, 1), [[0x33], [0x00]]);
+    assert_eq!(bench.shown(3, 1), [0x07]);
+}
+
+#[test]
+fn a_bit_in_both_masks_is_on() {
+    let mut bench = watched();
+    assert_eq!(bench.lasting(137, 0x81, 0x81), 0);
+    assert_eq!(bench.twice(137, 1), [[0x81], [0x81]]);
+    // So is one that was on before; with neither mask nothing changes.
+    assert_eq!(bench.lasting(137, 0x01, 0x81), 0);
+    assert_eq!(bench.twice(137, 1), [[0x81], [0x01]]);
+    let before = (bench.image, bench.lanes);
+    assert_eq!(bench.lasting(137, 0x00, 0x00), 0);
+    assert!(before == (bench.image, bench.lanes));
+}
+
+#[test]
+fn six_flag_bytes_take_a_condition() {
+    let mut bench = watched();
+    for flag_byte in 0..=255 {
+        let listed = [135, 136, 137, 138, 147, 148].contains(&flag_byte);
+        let answer = if listed { 0 } else { 8 };
+        assert_eq!(bench.lasting(flag_byte, 0x01, 0x02), answer, "{}", flag_byte);
+        assert_eq!(bench.one_time(flag_byte, 0x01), answer, "{}", flag_byte);
+    }
+}
+
+#[test]
+fn the_one_time_event_leaves_what_is_on() {
+    let mut bench = watched();
+    assert_eq!(bench.one_time(135, 0x01), 0);
+    assert_eq!(bench.twice(135, 1), [[0x01], [0x00]]);
+    assert_eq!(bench.lasting(148, 0x81, 0x00), 0);
+    let on = bench.lanes;
+    assert_eq!(bench.one_time(148, 0x02), 0);
+    assert!(on == bench.lanes);
+    assert_eq!(bench.twice(148, 1), [[0x83], [0x81]]);
+}
+
+#[test]
+fn a_sample_lasts_till_the_next_of_its_lane() {
+    let mut bench = watched();
+    assert_eq!(bench.shown(149, 4), [0; 4], "never sampled, though 0 is stored");
+    bench.sample(3, 0x0FFF);
+    assert_eq!(bench.twice(149, 4), [[0, 8, 0, 8], [0, 8, 0, 8]]);
+    bench.sample(3, 0x1000);
+    assert_eq!(bench.twice(149, 4), [[0, 8, 0, 8], [0, 0, 0, 0]]);
+    bench.sample(3, 0x2001);
+    bench.sample(5, 0x0FFF);
+    bench.sample(3, 0x1800);
+    assert_eq!(bench.twice(149, 4), [[0x08, 0x20, 0x08, 0x20], [0x00, 0x20, 0x00, 0x20]]);
+}
+
+#[test]
+fn the_four_comparisons_last_each_by_itself() {
+    let mut bench = Bench::of(with_limits(usual_image(), 1000, 2000, 3000, 4000));
+    bench.write(127, &[0x11]);
+    let lasting = [
+        (4001, [1, 0, 1, 0]), (4000, [0, 0, 1, 0]), (3000, [0; 4]), (2000, [0; 4]),
+        (1999, [0, 0, 0, 1]), (999, [0, 1, 0, 1]), (65535, [1, 0, 1, 0]), (0, [0, 1, 0, 1]),
+    ];
+    for (value, flags) in lasting {
+        bench.sample(0, value);
+        bench.shown(149, 4);
+        assert_eq!(bench.shown(149, 4), flags, "{}", value);
+    }
+}
+
+#[test]
+fn a_read_sets_again_what_it_read() {
+    let mut bench = watched();
+    bench.lasting(135, 0x01, 0x00);
+    bench.lasting(136, 0x02, 0x00);
+    bench.lasting(136, 0x00, 0x02);
+    assert_eq!(bench.shown(136, 1), [0x02]);
+    assert_eq!(bench.twice(134, 4), [[0x00, 0x01, 0x00, 0x00], [0x00, 0x01, 0x00, 0x00]]);
+    // Bytes beside a read stay as they are.
+    bench.lasting(138, 0x40, 0x00);
+    bench.lasting(138, 0x00, 0x40);
+    bench.one_time(136, 0x04);
+    bench.shown(137, 1);
+    bench.shown(139, 8);
+    bench.shown(154, 102);
+    assert_eq!(bench.shown(134, 20)[..5], [0, 0x01, 0x04, 0, 0x40]);
+    assert_eq!(bench.shown(128, 128)[6..11], [0, 0x01, 0, 0, 0]);
+    // A path's own flag is of an event and does not come back.
+    bench.write(127, &[0x10]);
+    bench.apply(0, &[0x10; 4], 143, 0x0F);
+    bench.hardware(0);
+    bench.hardware(0);
+    bench.write(127, &[0x11]);
+    assert_eq!(bench.twice(134, 2), [[0x0F, 0x01], [0x00, 0x01]]);
+}
+
+#[test]
+fn masks_have_a_say_in_the_interrupt_alone() {
+    let mut bench = watched();
+    bench.lasting(147, 0x01, 0x00);
+    bench.write(127, &[0x10]);
+    bench.write(226, &[0x01]);
+    assert_eq!(bench.shown(3, 1), [0x07]);
+    bench.write(127, &[0x11]);
+    assert_eq!(bench.twice(147, 1), [[0x01], [0x01]]);
+    assert_eq!(bench.shown(3, 1), [0x07]);
+    bench.write(127, &[0x10]);
+    bench.write(226, &[0x00]);
+    assert_eq!(bench.shown(3, 1), [0x06]);
+}
+
+#[test]
+fn flags_masks_and_the_interrupt() {
+    let mut bench = Bench::of(with_limits([0; IMAGE_LEN], 10, 20, 80, 100));
+    bench.one_time(136, 0x81);
+    assert_eq!(bench.shown(3, 1), [0x06]);
+    bench.sample(7, 101);
+    bench.write(213, &[0x00, 0x00, 0xFF]);
+    bench.write(221, &[0x00]);
+    assert_eq!(bench.shown(3, 1), [0x06]);
+    bench.write(228, &[0x80]);
+    bench.write(230, &[0x80]);
+    assert_eq!(bench.shown(3, 1), [0x07]);
+    bench.write(230, &[0x7F]);
+    assert_eq!(bench.shown(3, 1), [0x06]);
+    bench.write(127, &[0x11]);
+    assert_eq!(bench.shown(136, 1), [0x81]);
+    // Amended by Req 02: the sample above its limits comes back, and the
+    // interrupt with its warning, which no mask hides.
+    let mut flags = [0; 20];
+    (flags[15], flags[17]) = (0x80, 0x80);
+    assert_eq!(bench.shown(134, 20), flags);
+    assert_eq!(bench.shown(3, 1), [0x06]);
+    assert_eq!(bench.shown(200, 2), [0x00, 0x65]);
+    assert_eq!(bench.shown(134, 20), flags);
+}
+
+#[test]
+fn an_apply_leaves_what_is_on() {
+    // Marked, copied, closed with 1, released; and closed with a rejection.
+    for (staged, status) in [(0x10, 1), (0x00, 1), (0x20, 3)] {
+        let mut bench = watched();
+        bench.lasting(138, 0x05, 0x00);
+        bench.sample(1, 0x2001);
+        let on = bench.lanes.map(|record| record.on);
+        assert_eq!(on, [1 << 4, 1 << 15 | 1 << 17, 1 << 4, 0, 0, 0, 0, 0]);
+        bench.write(127, &[0x10]);
+        assert_eq!(bench.apply(0, &[staged; 4], 143, 0x0F), status);
+        assert_eq!(bench.lanes.map(|record| record.on), on);
+        assert_eq!(start(&mut bench.image, &mut bench.lanes), 0);
+        assert_eq!(bench.lanes, [LaneRecord::IDLE; LANES], "start ends all");
+    }
+    // What begins and ends in the middle of one holds as elsewhere.
+    let mut bench = watched();
+    bench.write(127, &[0x10]);
+    bench.write(145, &[0x10; 4]);
+    bench.write(143, &[0x0F]);
+    bench.work(0);
+    bench.lasting(148, 0x03, 0x00);
+    bench.work(0);
+    bench.lasting(148, 0x00, 0x02);
+    while bench.lanes[0].in_progress() {
+        bench.work(0);
+    }
+    bench.write(127, &[0x11]);
+    assert_eq!(bench.twice(148, 1), [[0x03], [0x01]]);
+}
+
+#[test]
+fn what_is_on_must_show() {
+    let bench = watched();
+    let answer = |on: u32, flags: &[u8]| {
+        let (mut image, mut lanes) = (bench.image, bench.lanes);
+        lanes[6].on = on;
+        for &flag_byte in flags {
+            image[P11 + flag_byte as usize] = 0x40;
+        }
+        let found = soundness::unsound_at(&image, &lanes);
+        let read = Event::Read { address: 0, count: 1 };
+        let answer = desk(&mut image, &mut lanes, &read, &mut [0]).answer;
+        assert_eq!(found, (answer == 3).then(|| ('f', 6)));
+        answer
+    };
+    let every: Vec<u8> = (134..=153).collect();
+    for flag_byte in 134..=153 {
+        let can_last = matches!(flag_byte, 135..=138 | 147..=152);
+        let bit = 1 << (flag_byte - 134);
+        assert_eq!(answer(bit, &[flag_byte]), if can_last { 0 } else { 3 }, "{}", flag_byte);
+        assert_eq!(answer(bit, &[]), 3, "{} without its flag", flag_byte);
+        let others: Vec<u8> = every.iter().copied().filter(|&other| other != flag_byte).collect();
+        assert_eq!(answer(bit, &others), 3, "{} without its flag", flag_byte);
+    }
+    for past in 20..32 {
+        assert_eq!(answer(1 << past, &every), 3);
+    }
+    assert_eq!(answer(1 << 1 | 1 << 18, &[135, 152]), 0);
+    assert_eq!(answer(1 << 1 | 1 << 18, &[135]), 3);
+    // Not more: the stored sample has no say.
+    assert_eq!(answer(1 << 15 | 1 << 16, &[149, 150]), 0);
+}
+
 #[test]
 fn a_path_from_rest_to_active_and_back() {
     let mut bench = Bench::new();
@@ -421,6 +662,8 @@ fn soundness_looks_at_odd_records_too() {
     assert_eq!(broken(&|image, _| image[DP_INIT_PENDING] = 0x0F), None);
     assert_eq!(broken(&|image, _| image[ACTIVE_DP_CONFIG + 1] = 0x10), Some('e'));
     assert_eq!(broken(&|_, apply| apply.held.app_sel = 2), Some('e'));
+    // Flags that no record calls on say nothing.
+    assert_eq!(broken(&|image, _| image[LANE_FLAGS..LANE_FLAGS_END].fill(0xFF)), None);
     // The bytes of the triggers and of lower 3 are nobody's business here.
     assert_eq!(broken(&|image, _| image[APPLY_DP_INIT] = 0xFF), None);
     assert_eq!(broken(&|image, _| image[MODULE_STATE] = 0), None);
@@ -807,32 +1050,81 @@ fn the_linux_driver_is_served() {
 
 // ---- the editions of the night file ----
 
-/// The example in edition 2, its page 9Fh filled with what start wipes.
-fn in_edition_2(file: &[u8]) -> Vec<u8> {
+/// An edition 1 file in edition 2 or 3, its page 9Fh filled with what start
+/// wipes.
+fn in_edition(number: u8, file: &[u8]) -> Vec<u8> {
     let mut made = [&file[..784], &[0xC3; 128], &file[784..]].concat();
-    made[2] = 2;
+    made[2] = number;
     made[12..16].copy_from_slice(&912u32.to_be_bytes());
     made
 }
 
+/// The image of a file with these records, each given by its first four bytes.
+fn with_records(file: &[u8], records: &[[u8; 4]]) -> Vec<u8> {
+    let mut made = file[..night_records(file)].to_vec();
+    made[4..8].copy_from_slice(&(records.len() as u32).to_be_bytes());
+    for record in records {
+        made.extend_from_slice(record);
+        made.extend_from_slice(&[0; 8]);
+    }
+    made
+}
+
+/// What a file prints, in one and in pieces.
+fn printed(file: &[u8]) -> String {
+    let text = String::from_utf8_lossy(&night::replay(file)).to_string();
+    assert_eq!(streamed(file), text);
+    text
+}
+
 #[test]
-fn both_editions_print_the_same() {
-    let file = in_edition_2(&example());
-    assert_eq!(file.len(), example().len() + 128);
-    assert_eq!(night::replay(&file), night::replay(&example()));
-    assert_eq!(streamed(&file).as_bytes(), night::replay(&example()));
+fn every_edition_prints_the_same() {
+    for file in [in_edition(2, &example()), in_edition(3, &example())] {
+        assert_eq!(file.len(), example().len() + 128);
+        assert_eq!(printed(&file).as_bytes(), night::replay(&example()));
+    }
     // An edition 1 night can select page 9Fh, and finds zeros there.
-    for file in [example(), in_edition_2(&example())] {
-        let records = night_records(&file);
-        let mut made = file[..records].to_vec();
-        made[4..8].copy_from_slice(&3u32.to_be_bytes());
-        for record in [[1, 127, 1, 0x9F], [1, 133, 1, 0xFF], [2, 128, 8, 0]] {
-            made.extend_from_slice(&record);
-            made.extend_from_slice(&[0; 8]);
-        }
+    for file in [example(), in_edition(2, &example()), in_edition(3, &example())] {
+        let records = [[1, 127, 1, 0x9F], [1, 133, 1, 0xFF], [2, 128, 8, 0]];
         let text = "0 0\n1 0\n2 0 00 00 00 00 00 ff 00 00\n";
-        assert_eq!(String::from_utf8_lossy(&night::replay(&made)), text);
-        assert_eq!(streamed(&made), text);
+        assert_eq!(printed(&with_records(&file, &records)), text);
+    }
+}
+
+#[test]
+fn kind_5_lasts_in_edition_3_alone() {
+    let editions = [example(), in_edition(2, &example()), in_edition(3, &example())];
+    let twice = [[1, 127, 1, 0x11], [5, 135, 0x0F, 0], [2, 135, 1, 0], [2, 135, 1, 0]];
+    let (once, lasting) = ("0 0\n1 0\n2 0 0f\n3 0 00\n", "0 0\n1 0\n2 0 0f\n3 0 0f\n");
+    for (file, text) in editions.iter().zip([once, once, lasting]) {
+        assert_eq!(printed(&with_records(file, &twice)), text);
+    }
+    // The off mask is the fourth byte, which older editions do not use.
+    let ended = [
+        [1, 127, 1, 0x11], [5, 135, 0x0F, 0], [5, 135, 0x30, 0x3C], [2, 135, 1, 0], [2, 135, 1, 0],
+    ];
+    let [first, second, third] = editions.map(|file| with_records(&file, &ended));
+    assert_eq!(printed(&third), "0 0\n1 0\n2 0\n3 0 3f\n4 0 33\n");
+    for older in [&first, &second] {
+        assert_eq!(night::replay(older), b"bad 9\n");
+        assert_eq!(streamed(older), "0 0\n1 0\nbad 9\n");
+    }
+    // Its fifth byte and those behind it are unused in every edition.
+    for place in 4..12 {
+        let wrong = with_byte(third.clone(), 912 + 2 * 12 + place, 0x01);
+        assert_eq!(night::replay(&wrong), b"bad 9\n");
+        assert_eq!(streamed(&wrong), "0 0\n1 0\nbad 9\n");
+    }
+}
+
+#[test]
+fn samples_last_in_every_edition() {
+    let limits = with_limits([0; IMAGE_LEN], 1000, 1000, 1000, 1000);
+    let mut file = example();
+    file[16..784].copy_from_slice(&limits[..768]);
+    let records = [[6, 0, 0x03, 0xE7], [1, 127, 1, 0x11], [2, 150, 1, 0], [2, 150, 1, 0]];
+    for file in [file.clone(), in_edition(2, &file), in_edition(3, &file)] {
+        assert_eq!(printed(&with_records(&file, &records)), "0 0\n1 0\n2 0 01\n3 0 01\n");
     }
 }
 
@@ -842,7 +1134,7 @@ fn night_records(file: &[u8]) -> usize {
 
 #[test]
 fn an_edition_has_its_own_offset_and_length() {
-    let (first, second) = (example(), in_edition_2(&example()));
+    let (first, second) = (example(), in_edition(2, &example()));
     let offset = |file: &[u8], offset: u32| {
         let mut file = file.to_vec();
         file[12..16].copy_from_slice(&offset.to_be_bytes());
@@ -858,7 +1150,7 @@ fn an_edition_has_its_own_offset_and_length() {
         [&second[..], &[0]].concat(),
     ];
     // No other edition is read, whatever its offset.
-    for number in [0, 3, 4, 255] {
+    for number in [0, 4, 5, 255] {
         wrong.push(with_byte(first.clone(), 2, number));
         wrong.push(with_byte(second.clone(), 2, number));
         wrong.push(offset(&with_byte(second.clone(), 2, number), 1040));
@@ -879,7 +1171,11 @@ fn an_edition_has_its_own_offset_and_length() {
 
 #[test]
 fn the_longest_file_of_an_edition() {
-    for (file, longest) in [(example(), 60_784), (in_edition_2(&example()), 60_912)] {
+    for (file, longest) in [
+        (example(), 60_784),
+        (in_edition(2, &example()), 60_912),
+        (in_edition(3, &example()), 60_912),
+    ] {
         let mut file = file[..night_records(&file)].to_vec();
         file[4..8].copy_from_slice(&5000u32.to_be_bytes());
         file.resize(file.len() + 5000 * 12, 0);

@@ -1,6 +1,8 @@
 //! What the module remembers of its lanes beside the image, and sets of lanes:
 //! shared by the core and the soundness test.
 
+use crate::registers::LANE_FLAGS;
+
 /// Which trigger register started an Apply.
 #[derive(Clone, Copy, PartialEq, Eq, Debug)]
 pub enum Trigger {
@@ -69,10 +71,22 @@ pub enum Stage {
 #[derive(Clone, Copy, PartialEq, Eq, Debug)]
 pub struct LaneRecord {
     pub stage: Stage,
+    /// Which of the lane's flags are on, so that they rise again when a read
+    /// has cleared them: bit k for flag byte 11h:134+k.
+    pub on: u32,
 }
 
 impl LaneRecord {
-    pub const IDLE: LaneRecord = LaneRecord { stage: Stage::Idle };
+    /// As start leaves a lane: no Apply under way, nothing on.
+    pub const IDLE: LaneRecord = LaneRecord { stage: Stage::Idle, on: 0 };
+
+    /// Says of the lane's flag in a flag byte, given by its place in the
+    /// image, whether it is on.
+    #[inline(always)]
+    pub fn set_on(&mut self, flag: usize, on: bool) {
+        let bit = flag - LANE_FLAGS;
+        self.on = (self.on & !(1 << bit)) | ((on as u32) << bit);
+    }
 
     #[inline(always)]
     pub fn in_progress(&self) -> bool {

@@ -1,4 +1,4 @@
-//! The register core: start and the six events.
+//! The register core: start and the seven events.
 
 use crate::applications::*;
 use crate::commands;
@@ -15,7 +15,10 @@ pub enum Event {
     Read { address: u8, count: u8 },
     Work { lane: u8 },
     Hardware { lane: u8 },
+    /// The one-time event: it leaves what is on.
     Condition { flag_byte: u8, mask: u8 },
+    /// A bit in both masks is on.
+    LastingCondition { flag_byte: u8, on: u8, off: u8 },
     Sample { lane: u8, value: u16 },
 }
 
@@ -39,8 +42,9 @@ impl Outcome {
     }
 }
 
-/// Puts the image into its start state and makes all lanes idle. A refusal
-/// (1, 2 or 10) leaves the image alone; the lanes are idle all the same.
+/// Puts the image into its start state and makes all lanes idle, with nothing
+/// on. A refusal (1, 2 or 10) leaves the image alone; the lanes are idle all
+/// the same.
 pub fn start(image: &mut [u8], lanes: &mut [LaneRecord; LANES]) -> u8 {
     *lanes = [LaneRecord::IDLE; LANES];
     let image = match <&mut [u8; IMAGE_LEN]>::try_from(image) {
@@ -246,6 +250,9 @@ impl<'a> Module<'a> {
             Event::Work { lane } => self.work::<LATE>(lane),
             Event::Hardware { lane } => self.hardware(lane),
             Event::Condition { flag_byte, mask } => self.condition(flag_byte, mask),
+            Event::LastingCondition { flag_byte, on, off } => {
+                self.lasting_condition(flag_byte, on, off)
+            }
             Event::Sample { lane, value } => self.sample(lane, value),
         };
         if outcome.answer == answer::DONE {
@@ -442,6 +449,7 @@ impl<'a> Module<'a> {
             self.clear_within(&range, MODULE_FLAGS, MODULE_FLAGS_END);
         } else if range.end > LANE_FLAGS {
             self.clear_within(&range, LANE_FLAGS, LANE_FLAGS_END);
+            self.set_again_within(&range);
         }
         self.settle_interrupt();
     }
@@ -474,6 +482,23 @@ impl<'a> Module<'a> {
         let (first, end) = (range.start.max(first), range.end.min(end));
         if first < end {
             self.image[first..end].fill(0);
+        }
+    }
+
+    /// Sets the flags that are on, in the flag bytes that a range covers.
+    #[inline(always)]
+    fn set_again_within(&mut self, range: &Range<usize>) {
+        let (first, end) = (range.start.max(LANE_FLAGS), range.end.min(LANE_FLAGS_END));
+        if first >= end {
+            return;
+        }
+        let covered = (1u32 << (end - LANE_FLAGS)) - (1 << (first - LANE_FLAGS));
+        for (lane, record) in self.lanes.iter().enumerate() {
+            let mut left = record.on & covered;
+            while left != 0 {
+                self.image[LANE_FLAGS + left.trailing_zeros() as usize] |= 1 << lane;
+                left &= left - 1;
+            }
         }
     }
 
@@ -739,7 +764,7 @@ impl<'a> Module<'a> {
     fn close(&mut self, group: u8, code: u8) {
         self.set_nibbles(CONFIG_STATUS, group, code);
         for lane in LaneSet(group) {
-            self.lanes[lane as usize & 7] = LaneRecord::IDLE;
+            self.lanes[lane as usize & 7].stage = Stage::Idle;
         }
     }
 
@@ -810,13 +835,27 @@ impl<'a> Module<'a> {
 
     #[inline(always)]
     fn condition(&mut self, flag_byte: u8, mask: u8) -> Outcome {
-        match flag_byte {
-            135..=138 | 147 | 148 => {
-                self.image[P11 + flag_byte as usize] |= mask;
+        match condition_flag(flag_byte) {
+            Some(flag) => {
+                self.image[flag] |= mask;
                 Outcome::DONE
             }
-            _ => Outcome::refused(answer::NO_SUCH_PLACE),
+            None => Outcome::refused(answer::NO_SUCH_PLACE),
         }
+    }
+
+    /// The flags of the on mask rise; those of the off mask stay till a read.
+    #[inline(always)]
+    fn lasting_condition(&mut self, flag_byte: u8, on: u8, off: u8) -> Outcome {
+        let flag = match condition_flag(flag_byte) {
+            Some(flag) => flag,
+            None => return Outcome::refused(answer::NO_SUCH_PLACE),
+        };
+        self.image[flag] |= on;
+        for lane in LaneSet(on | off) {
+            self.lanes[lane as usize & 7].set_on(flag, on >> lane & 1 != 0);
+        }
+        Outcome::DONE
     }
 
     #[inline(always)]
@@ -826,15 +865,26 @@ impl<'a> Module<'a> {
         }
         let place = RX_POWER + 2 * (lane & 7) as usize;
         self.image[place..place + 2].copy_from_slice(&value.to_be_bytes());
-        let above_alarm = value > u16_at(self.image, RX_POWER_HIGH_ALARM);
-        let below_alarm = value < u16_at(self.image, RX_POWER_LOW_ALARM);
-        let above_warning = value > u16_at(self.image, RX_POWER_HIGH_WARNING);
-        let below_warning = value < u16_at(self.image, RX_POWER_LOW_WARNING);
-        self.image[RX_POWER_HIGH_ALARM_FLAG] |= (above_alarm as u8) << lane;
-        self.image[RX_POWER_LOW_ALARM_FLAG] |= (below_alarm as u8) << lane;
-        self.image[RX_POWER_HIGH_WARNING_FLAG] |= (above_warning as u8) << lane;
-        self.image[RX_POWER_LOW_WARNING_FLAG] |= (below_warning as u8) << lane;
+        let compared = [
+            (RX_POWER_HIGH_ALARM_FLAG, value > u16_at(self.image, RX_POWER_HIGH_ALARM)),
+            (RX_POWER_LOW_ALARM_FLAG, value < u16_at(self.image, RX_POWER_LOW_ALARM)),
+            (RX_POWER_HIGH_WARNING_FLAG, value > u16_at(self.image, RX_POWER_HIGH_WARNING)),
+            (RX_POWER_LOW_WARNING_FLAG, value < u16_at(self.image, RX_POWER_LOW_WARNING)),
+        ];
+        for (flag, holds) in compared {
+            self.image[flag] |= (holds as u8) << lane;
+            self.lanes[lane as usize & 7].set_on(flag, holds);
+        }
         Outcome::DONE
+    }
+}
+
+/// Where a flag byte that conditions raise lies; none for any other byte.
+#[inline(always)]
+fn condition_flag(flag_byte: u8) -> Option<usize> {
+    match flag_byte {
+        135..=138 | 147 | 148 => Some(P11 + flag_byte as usize),
+        _ => None,
     }
 }
 

@@ -19,11 +19,17 @@ pub struct Edition {
     /// How many bytes of the module's image the file holds, from its beginning
     /// on; the rest of it is 0.
     pub image_len: usize,
+    /// Whether kind 5 is the lasting condition (flag byte, on mask, off mask)
+    /// or the one-time one (flag byte, mask).
+    pub lasting: bool,
 }
 
 /// Every edition that is read.
-pub const EDITIONS: [Edition; 2] =
-    [Edition { number: 1, image_len: 768 }, Edition { number: 2, image_len: 896 }];
+pub const EDITIONS: [Edition; 3] = [
+    Edition { number: 1, image_len: 768, lasting: false },
+    Edition { number: 2, image_len: 896, lasting: false },
+    Edition { number: 3, image_len: 896, lasting: true },
+];
 
 impl Edition {
     pub const fn records_at(self) -> usize {
@@ -49,6 +55,7 @@ const WORD: usize = 8;
 
 /// A night file that has passed the whole check.
 pub struct Night<'a> {
+    edition: Edition,
     image: [u8; IMAGE_LEN],
     records: &'a [u8],
 }
@@ -57,28 +64,28 @@ pub struct Night<'a> {
 /// 9 for a malformed file, what start answers (2 or 10) for a well-formed one
 /// whose image it refuses.
 pub fn check(file: &[u8]) -> Result<Night<'_>, u8> {
-    let (image, records) = match parts(file) {
-        Some((image, records)) if each_record(records).all(well_formed) => (image, records),
-        _ => return Err(answer::MALFORMED),
-    };
-    match start_refusal(&image) {
-        answer::DONE => Ok(Night { image, records }),
+    let night = parts(file).ok_or(answer::MALFORMED)?;
+    if !each_record(night.records).all(|record| well_formed(night.edition, record)) {
+        return Err(answer::MALFORMED);
+    }
+    match start_refusal(&night.image) {
+        answer::DONE => Ok(night),
         refusal => Err(refusal),
     }
 }
 
-/// The image and the records of a file whose header and length are right.
-fn parts(file: &[u8]) -> Option<([u8; IMAGE_LEN], &[u8])> {
+/// The parts of a file whose header and length are right.
+fn parts(file: &[u8]) -> Option<Night<'_>> {
     let header = read_header(file.get(..HEADER_LEN)?.try_into().ok()?)?;
-    let count = header.record_count as usize;
-    let in_file = file.get(HEADER_LEN..header.edition.records_at())?;
-    let records = &file[header.edition.records_at()..];
+    let (edition, count) = (header.edition, header.record_count as usize);
+    let in_file = file.get(HEADER_LEN..edition.records_at())?;
+    let records = &file[edition.records_at()..];
     if count > MAX_RECORDS || records.len() != count * RECORD_LEN {
         return None;
     }
     let mut image = [0; IMAGE_LEN];
     image[..in_file.len()].copy_from_slice(in_file);
-    Some((image, records))
+    Some(Night { edition, image, records })
 }
 
 /// What a header says; none if it is wrong. Each edition has its own offset
@@ -95,7 +102,8 @@ pub fn read_header(header: &[u8; HEADER_LEN]) -> Option<Header> {
     right.then(|| Header { edition, record_count: number(4) })
 }
 
-/// How many bytes a record of each kind uses; a write's data come on top.
+/// How many bytes a record of each kind uses; a write's data come on top, and
+/// the off mask of a lasting condition.
 const USED_BYTES: [u8; 7] = [0, 3, 3, 2, 2, 3, 4];
 
 /// For a number of used bytes: all ones in the unused bytes of a record's
@@ -113,16 +121,19 @@ const fn unused_bits() -> [(u64, u32); 16] {
     table
 }
 
-/// Whether a record's kind is one of the six and what it does not use is 0.
+/// Whether a record's kind is one of the six and what it does not use in its
+/// edition is 0.
 #[inline(always)]
-pub fn well_formed(record: &[u8; RECORD_LEN]) -> bool {
+pub fn well_formed(edition: Edition, record: &[u8; RECORD_LEN]) -> bool {
     let kind = record[0];
     if kind == 0 || kind > 6 {
         return false;
     }
     let mut used = USED_BYTES[kind as usize];
-    if kind == 1 {
-        used += record[2].min(8);
+    match kind {
+        1 => used += record[2].min(8),
+        5 => used += edition.lasting as u8,
+        _ => {}
     }
     let (mut front, mut back) = ([0u8; 8], [0u8; 4]);
     front.copy_from_slice(&record[..8]);
@@ -140,8 +151,8 @@ fn each_record(records: &[u8]) -> impl Iterator<Item = &[u8; RECORD_LEN]> {
 
 /// The event of a record that has passed the check.
 #[inline(always)]
-pub fn event_of(record: &[u8; RECORD_LEN]) -> Event {
-    let (first, second) = (record[1], record[2]);
+pub fn event_of(edition: Edition, record: &[u8; RECORD_LEN]) -> Event {
+    let (first, second, third) = (record[1], record[2], record[3]);
     match record[0] {
         1 => {
             let mut data = [0u8; 8];
@@ -151,8 +162,11 @@ pub fn event_of(record: &[u8; RECORD_LEN]) -> Event {
         2 => Event::Read { address: first, count: second },
         3 => Event::Work { lane: first },
         4 => Event::Hardware { lane: first },
+        5 if edition.lasting => {
+            Event::LastingCondition { flag_byte: first, on: second, off: third }
+        }
         5 => Event::Condition { flag_byte: first, mask: second },
-        _ => Event::Sample { lane: first, value: u16::from_be_bytes([second, record[3]]) },
+        _ => Event::Sample { lane: first, value: u16::from_be_bytes([second, third]) },
     }
 }
 
@@ -170,7 +184,8 @@ impl<'a> Night<'a> {
     }
 
     pub fn events(&self) -> impl Iterator<Item = Event> + 'a {
-        each_record(self.records).map(event_of)
+        let edition = self.edition;
+        each_record(self.records).map(move |record| event_of(edition, record))
     }
 }
 

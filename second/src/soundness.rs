@@ -6,7 +6,7 @@ use crate::applications::*;
 use crate::lanes::*;
 use crate::registers::*;
 
-/// Whether a state meets (a) to (e).
+/// Whether a state meets (a) to (f).
 pub fn sound(image: &[u8; IMAGE_LEN], lanes: &[LaneRecord; LANES]) -> bool {
     unsound_at(image, lanes).is_none()
 }
@@ -14,12 +14,13 @@ pub fn sound(image: &[u8; IMAGE_LEN], lanes: &[LaneRecord; LANES]) -> bool {
 /// The first condition that a state does not meet, with a lane that shows it.
 pub fn unsound_at(image: &[u8; IMAGE_LEN], lanes: &[LaneRecord; LANES]) -> Option<(char, usize)> {
     let view = View { image, lanes };
-    let conditions: [(char, &dyn Fn(usize) -> bool); 5] = [
+    let conditions: [(char, &dyn Fn(usize) -> bool); 6] = [
         ('a', &|lane| view.status_fits_stage(lane)),
         ('b', &|lane| view.group_agrees(lane)),
         ('c', &|lane| view.used_lane_in_whole_path(lane)),
         ('d', &|lane| view.unused_lane_at_rest(lane)),
         ('e', &|lane| view.passing_group_fits(lane)),
+        ('f', &|lane| view.what_is_on_shows(lane)),
     ];
     for (name, holds) in conditions.iter() {
         for lane in 0..LANES {
@@ -30,6 +31,9 @@ pub fn unsound_at(image: &[u8; IMAGE_LEN], lanes: &[LaneRecord; LANES]) -> Optio
     }
     None
 }
+
+/// The flag bytes of page 11h that can last: conditions and received power.
+const CAN_LAST: [usize; 10] = [135, 136, 137, 138, 147, 148, 149, 150, 151, 152];
 
 struct View<'a> {
     image: &'a [u8; IMAGE_LEN],
@@ -204,6 +208,15 @@ impl<'a> View<'a> {
         };
 
         (release || makes_path) && state_fits && copied_hold && rest_fits
+    }
+
+    /// (f) Only flags that can last are on, and each flag that is on is 1.
+    fn what_is_on_shows(&self, lane: usize) -> bool {
+        let on = self.lanes[lane].on;
+        (0..u32::BITS as usize)
+            .filter(|&k| on & (1 << k) != 0)
+            .map(|k| 134 + k)
+            .all(|flag_byte| CAN_LAST.contains(&flag_byte) && self.bit(P11 + flag_byte, lane))
     }
 
     fn active_settings(&self, lane: usize) -> Settings {

@@ -32,8 +32,8 @@ pub struct Stream {
     record: [u8; RECORD_LEN],
     /// The file's image while it comes, the module's from then on.
     image: [u8; IMAGE_LEN],
-    /// How many bytes of it the file has.
-    image_len: usize,
+    /// What the header says, once it has come.
+    edition: Edition,
     lanes: [LaneRecord; LANES],
     /// Records that are still to come.
     left: u32,
@@ -49,7 +49,7 @@ impl Stream {
             header: [0; HEADER_LEN],
             record: [0; RECORD_LEN],
             image: [0; IMAGE_LEN],
-            image_len: 0,
+            edition: EDITIONS[0],
             lanes: [LaneRecord::IDLE; LANES],
             left: 0,
             next: 0,
@@ -62,7 +62,7 @@ impl Stream {
         while !piece.is_empty() {
             let room = match self.part {
                 Part::Header => &mut self.header[self.come..],
-                Part::Image => &mut self.image[self.come..self.image_len],
+                Part::Image => &mut self.image[self.come..self.edition.image_len],
                 Part::Record => &mut self.record[self.come..],
                 Part::End => return self.bad(answer::MALFORMED, printed),
                 Part::Over => return,
@@ -92,7 +92,7 @@ impl Stream {
         match self.part {
             Part::Header => match read_header(&self.header) {
                 Some(header) => {
-                    self.image_len = header.edition.image_len;
+                    self.edition = header.edition;
                     self.left = header.record_count;
                     self.part = Part::Image;
                 }
@@ -102,7 +102,7 @@ impl Stream {
                 answer::DONE => self.await_record(),
                 refusal => self.bad(refusal, printed),
             },
-            Part::Record if well_formed(&self.record) => {
+            Part::Record if well_formed(self.edition, &self.record) => {
                 self.replay_record(printed);
                 self.next += 1;
                 self.left -= 1;
@@ -120,7 +120,7 @@ impl Stream {
     fn replay_record(&mut self, printed: &mut Vec<u8>) {
         let mut module = Module { image: &mut self.image, lanes: &mut self.lanes };
         let mut read = [0u8; 128];
-        let outcome = module.step(&event_of(&self.record), &mut read);
+        let outcome = module.step(&event_of(self.edition, &self.record), &mut read);
         printed.extend_from_slice(format!("{} {}", self.next, outcome.answer).as_bytes());
         for &byte in &read[..outcome.read as usize] {
             printed.extend_from_slice(&HEX[byte as usize][..3]);

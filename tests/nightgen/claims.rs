@@ -1,6 +1,7 @@
 //! Checks of the papers' claims: soundness, and demand 3.
 
-use crate::aims::Maker;
+use crate::aims::{Conditions, Maker};
+use crate::lasting::lasts_plainly;
 use crate::messages::{left_by_write, runs_command};
 use crate::nights::Made;
 use crate::rng::Rng;
@@ -73,7 +74,7 @@ impl Claims {
         // With no group half way, the late run can begin here as well.
         let fresh = (0..8).filter_map(|lane| state.apply(lane)).all(|apply| passing(&apply).is_none());
         let mut late = if fresh { Some(state.clone()) } else { None };
-        let mut maker = Maker::from(Rng(rng.next()), state, true);
+        let mut maker = Maker::from(Rng(rng.next()), state, true, Conditions::Both);
         for _ in 0..if fresh { 60 } else { 12 } {
             let event = maker.next();
             let before = maker.state.clone();
@@ -117,7 +118,8 @@ fn is_command(before: &State, event: &Event) -> bool {
     }
 }
 
-/// Holds an event that is done against the plain rules of page 9Fh and of the interrupt.
+/// Holds an event that is done against the plain rules of page 9Fh, of what is on and of the
+/// interrupt.
 fn plainly(before: &State, event: &Event, after: &State) -> Result<(), String> {
     if let Event::Write { address, count, data } = *event {
         let on_9fh = address >= 128 && before.page() == 0x9F;
@@ -125,6 +127,7 @@ fn plainly(before: &State, event: &Event, after: &State) -> Result<(), String> {
             return Err(format!("{:?} on page 9Fh leaves otherwise than the plain rule", event));
         }
     }
+    lasts_plainly(before, event, after)?;
     if (after.image[3] & 1 == 0) != interrupts(&after.image) {
         return Err(format!("{:?} leaves the interrupt otherwise than the plain rule", event));
     }

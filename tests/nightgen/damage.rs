@@ -2,7 +2,7 @@
 
 use crate::coverage::Coverage;
 use crate::image::{put_limits, turned_round};
-use crate::nights::{make_night, night_file, FIRST, SECOND};
+use crate::nights::{make_night, night_file, FIRST, SECOND, THIRD};
 use crate::rng::Rng;
 use second::night::{Edition, EDITIONS};
 
@@ -24,14 +24,15 @@ impl Damage {
     }
 
     fn night(&mut self, edition: Edition, length: usize) -> Vec<u8> {
-        night_file(edition, &make_night(&mut self.rng, length, true, &mut Coverage::default()))
+        let uncounted = &mut Coverage::default();
+        night_file(edition, &make_night(&mut self.rng, edition, length, true, uncounted))
     }
 
     /// A night for the streaming form alone. Drawn from a copy: what else a
     /// seed gives does not depend on it.
     fn long_night(&self) -> Vec<u8> {
         let mut rng = self.rng.clone();
-        night_file(SECOND, &make_night(&mut rng, 20_000, true, &mut Coverage::default()))
+        night_file(THIRD, &make_night(&mut rng, THIRD, 20_000, true, &mut Coverage::default()))
     }
 
     fn list(&mut self) {
@@ -44,8 +45,9 @@ impl Damage {
             list_lengths(&mut list, whole, &none, &longest);
             list_flat(&mut list, whole, &none, &longest);
         }
-        let [first, second] = &wholes;
+        let [first, second, third] = &wholes;
         list_editions(&mut list, first, second);
+        list_editions(&mut list, first, third);
         // Faults that the streaming form finds late, some of them behind lines above 5,000.
         let long = self.long_night();
         list.push(("above the longest", with(&long, record_at(&long, 12_345), 0)));
@@ -54,8 +56,10 @@ impl Damage {
         let bad = with(second, record_at(second, 2), 0xFF);
         list.push(("kind", [&bad[..], second].concat()));
         list_records(&mut list, &wholes);
+        list_conditions(&mut list, &wholes);
         list_limits(&mut list, second, &[0, 1, 2]);
         list_limits(&mut list, first, &[1]);
+        list_limits(&mut list, third, &[1]);
         self.listed = list;
         self.listed.reverse();
     }
@@ -65,7 +69,7 @@ impl Damage {
             return listed;
         }
         let length = 1 + self.rng.below(60);
-        let edition = self.rng.pick(&[FIRST, SECOND, SECOND]);
+        let edition = self.rng.pick(&[FIRST, SECOND, THIRD, THIRD]);
         let mut file = self.night(edition, length);
         let records = records_at(&file);
         match self.rng.below(10) {
@@ -203,12 +207,13 @@ fn list_lengths(list: &mut Listed, whole: &[u8], none: &[u8], longest: &[u8]) {
     list.push(("flat and malformed", flat(&one_more)));
 }
 
-/// Each edition under the other's number, offset and length; editions that
-/// there are not.
+/// Two editions, the second one of a longer image, each under the other's
+/// number, offset and length; editions that there are not.
 fn list_editions(list: &mut Listed, first: &[u8], second: &[u8]) {
     const KIND: &str = "edition, offset and length that do not belong together";
-    let (short, long) = (records_at(first) as u32, records_at(second) as u32);
-    for (file, own, other) in [(first, (1, short), (2, long)), (second, (2, long), (1, short))] {
+    let of_first = (first[2], records_at(first) as u32);
+    let of_second = (second[2], records_at(second) as u32);
+    for (file, own, other) in [(first, of_first, of_second), (second, of_second, of_first)] {
         list.push((KIND, under(file, own.0, other.1)));
         list.push((KIND, under(file, other.0, own.1)));
         list.push((KIND, under(file, other.0, other.1)));
@@ -216,51 +221,93 @@ fn list_editions(list: &mut Listed, first: &[u8], second: &[u8]) {
         list.push((KIND, flat(&under(file, other.0, own.1))));
         // Without records the length is that of the other edition's beginning.
         list.push((KIND, under(&counted(&file[..own.1 as usize], 0), other.0, other.1)));
-        for number in [0, 3, 4, 255] {
+        for number in [0, 4, 5, 255] {
             list.push(("edition that there is not", under(file, number, own.1)));
             list.push(("edition that there is not", flat(&under(file, number, own.1))));
         }
-        list.push(("edition that there is not", under(file, 3, long + 128)));
+        list.push(("edition that there is not", under(file, 4, of_second.1 + 128)));
     }
-    // An edition 1 night of 128 bytes more is as long as one of edition 2, and the other way round.
+    // A first night of 128 bytes more is as long as a second one, and the other way round.
     let longer = [first, &[0; 128][..]].concat();
-    list.push((KIND, under(&longer, 1, short)));
-    list.push((KIND, under(&second[..second.len() - 128], 2, long)));
+    list.push((KIND, under(&longer, of_first.0, of_first.1)));
+    list.push((KIND, under(&second[..second.len() - 128], of_second.0, of_second.1)));
 }
 
-/// Kinds and unused bytes; the editions take turns, since records are the same.
-fn list_records(list: &mut Listed, wholes: &[Vec<u8>; 2]) {
+/// Kinds and unused bytes; the editions take turns, since records are the same
+/// but for conditions.
+fn list_records(list: &mut Listed, wholes: &[Vec<u8>; 3]) {
     for (at, whole) in [0, 9, 19].iter().zip(wholes.iter().cycle()) {
         for kind in [0, 7, 8, 0x11, 0x81, 0xFF] {
             list.push(("kind", with(whole, record_at(whole, *at), kind)));
         }
     }
     // Every byte that a kind does not use, one at a time.
-    let usual: [(u8, u8, usize); 16] = [
+    let usual: [(u8, u8, usize); 15] = [
         (1, 0, 3), (1, 1, 4), (1, 2, 5), (1, 3, 6), (1, 4, 7), (1, 5, 8), (1, 6, 9), (1, 7, 10),
         (1, 8, 11), (1, 9, 11), (1, 255, 11),
-        (2, 4, 3), (3, 0, 2), (4, 0, 2), (5, 1, 3), (6, 0, 4),
+        (2, 4, 3), (3, 0, 2), (4, 0, 2), (6, 0, 4),
     ];
     for (&(kind, second, used), whole) in usual.iter().zip(wholes.iter().cycle()) {
-        let address = if kind == 5 { 136 } else { 0 };
-        let mut record = [0u8; 12];
-        record[0] = kind;
-        record[1] = address;
-        if used > 2 {
-            record[2] = second;
-        }
-        let begin = record_at(whole, 7);
-        let mut file = whole.clone();
-        file[begin..begin + 12].copy_from_slice(&record);
+        let third = if used > 2 { second } else { 0 };
+        let file = with_record(whole, [kind, 0, third, 0]);
         list.push(("whole", file.clone()));
         if used > 3 {
-            list.push(("whole", with(&file, begin + used - 1, 0xA5)));
+            list.push(("whole", with(&file, record_at(whole, CHANGED) + used - 1, 0xA5)));
         }
-        for place in used..12 {
-            let byte = if place % 2 == 0 { 0x01 } else { 0x80 };
-            list.push(("unused byte", with(&file, begin + place, byte)));
-        }
+        list_unused(list, &file, used);
     }
+}
+
+/// The record that is put into a whole file, and those that are changed.
+const CHANGED: usize = 7;
+
+/// A whole file with a record in it that begins with these bytes.
+fn with_record(whole: &[u8], beginning: [u8; 4]) -> Vec<u8> {
+    let begin = record_at(whole, CHANGED);
+    let mut file = whole.to_vec();
+    file[begin..begin + 12].fill(0);
+    file[begin..begin + 4].copy_from_slice(&beginning);
+    file
+}
+
+/// Every byte that a record does not use, one at a time.
+fn list_unused(list: &mut Listed, file: &[u8], used: usize) {
+    for place in used..12 {
+        let byte = if place % 2 == 0 { 0x01 } else { 0x80 };
+        list.push(("unused byte", with(file, record_at(file, CHANGED) + place, byte)));
+    }
+}
+
+/// Kind 5: three bytes used in editions 1 and 2, four in edition 3, whose files
+/// are else as those of edition 2.
+fn list_conditions(list: &mut Listed, wholes: &[Vec<u8>; 3]) {
+    const OLDER: &str = "off mask in an older edition";
+    let [first, second, third] = wholes;
+    for whole in [first, second] {
+        let file = with_record(whole, [5, 136, 0x0F, 0]);
+        list.push(("whole", file.clone()));
+        list_unused(list, &file, 3);
+        for off in [0x01, 0x30, 0xFF] {
+            list.push((OLDER, with_record(whole, [5, 136, 0x0F, off])));
+        }
+        list.push((OLDER, flat(&with_record(whole, [5, 136, 0x0F, 0x30]))));
+        list.push((OLDER, with_record(whole, [5, 7, 0, 0x80])));
+    }
+    for beginning in [[5, 136, 0x0F, 0x30], [5, 148, 0, 0xFF], [5, 135, 0xFF, 0], [5, 7, 0, 0x80]] {
+        let file = with_record(third, beginning);
+        list.push(("whole", file.clone()));
+        list_unused(list, &file, 4);
+    }
+    // Nights of edition 2 are whole as nights of edition 3; the other way round only those
+    // without an off mask are.
+    list.push(("whole", with(&with_record(second, [5, 136, 0x0F, 0]), 2, 3)));
+    list.push((OLDER, with(&with_record(third, [5, 136, 0x0F, 0x30]), 2, 2)));
+    let begin = record_at(third, 0);
+    let one = counted(&with_record(third, [5, 136, 0x0F, 0]), 1);
+    let one = [&one[..begin], &one[begin + 12 * CHANGED..begin + 12 * (CHANGED + 1)]].concat();
+    list.push(("whole", with(&one, 2, 2)));
+    list.push(("whole", with(&one, begin + 3, 0x30)));
+    list.push((OLDER, with(&with(&one, begin + 3, 0x30), 2, 2)));
 }
 
 fn list_flat(list: &mut Listed, whole: &[u8], none: &[u8], longest: &[u8]) {

@@ -3,13 +3,13 @@
 //! Every night is made event by event against the second program's core, so
 //! that the generator knows the state and can aim: at lanes in progress, at
 //! paths in a given state, at the edges of an access, at command messages that
-//! are right but for one byte. A plain restatement of grouping, verdicts and
-//! commands is held against the core on the way. The same seed always gives the
-//! same files.
+//! are right but for one byte, at flags that are on. A plain restatement of
+//! grouping, verdicts, commands and what is on is held against the core on the
+//! way. The same seed always gives the same files.
 //!
 //! * `rng`, `state`: random numbers; the state a night has reached.
-//! * `rules`, `messages`: grouping, verdicts, the interrupt and command
-//!   messages, said plainly.
+//! * `rules`, `messages`, `lasting`: grouping, verdicts, the interrupt, command
+//!   messages and what is on, said plainly.
 //! * `image`, `aims`, `nights`: images, events that aim at the state, and the
 //!   nights and files made of them.
 //! * `coverage`: what must occur, and the counts of what did.
@@ -26,6 +26,7 @@ mod claims;
 mod coverage;
 mod damage;
 mod image;
+mod lasting;
 mod messages;
 mod nights;
 mod options;
@@ -103,12 +104,12 @@ fn nights(options: &Options) -> Result<(), String> {
         let refused = index % REFUSED_EVERY == REFUSED_EVERY - 1;
         let mut unanswered = Coverage::default();
         let covers = if refused { &mut unanswered } else { &mut coverage };
-        let mut made = make_night(&mut rng, length, true, covers);
+        let edition = edition_of(index);
+        let mut made = make_night(&mut rng, edition, length, true, covers);
         if refused {
             let rising = limits(&made.image);
             put_limits(&mut made.image, turned_round(rising, index / REFUSED_EVERY % 4));
         }
-        let edition = edition_of(index);
         let file = night_file(edition, &made);
         coverage.look_at_start(&made.image, night::check(&file).err().unwrap_or(0));
         coverage.look_at_edition(edition, &made);
@@ -142,7 +143,8 @@ fn damaged(options: &Options) -> Result<(), String> {
             "flat and malformed" | "back to front and malformed"
             | "back to front, flat and malformed"
             | "edition, offset and length that do not belong together"
-            | "edition that there is not" => 0,
+            | "edition that there is not"
+            | "off mask in an older edition" | "unused byte" => 0,
             "flat image" | "back to front and flat" => 1,
             "back to front" => 2,
             "whole" | "longest, whole" | "limits equal, whole" => 3,
@@ -172,7 +174,7 @@ fn damaged(options: &Options) -> Result<(), String> {
 
 fn bench(options: &Options) -> Result<(), String> {
     let mut uncounted = Coverage::default();
-    let made = make_night(&mut Rng(options.seed), options.records, false, &mut uncounted);
+    let made = make_night(&mut Rng(options.seed), FIRST, options.records, false, &mut uncounted);
     let mut output = options.output()?;
     output.put(0, &night_file(FIRST, &made)).map_err(failed)?;
     output.finish().map_err(failed)
@@ -186,8 +188,9 @@ fn check(options: &Options) -> Result<(), String> {
     let mut pieces = Pieces::default();
     for index in 0..options.count {
         let length = night_length(&mut rng, index);
-        let made = make_night(&mut rng, length, true, &mut uncounted);
-        let file = night_file(edition_of(index), &made);
+        let edition = edition_of(index);
+        let made = make_night(&mut rng, edition, length, true, &mut uncounted);
+        let file = night_file(edition, &made);
         claims
             .night(&made)
             .and_then(|()| pieces.file(&file, &mut cuts))

@@ -1,6 +1,6 @@
 //! Whole nights, and the files they make.
 
-use crate::aims::Maker;
+use crate::aims::{Conditions, Maker};
 use crate::coverage::Coverage;
 use crate::image::make_image;
 use crate::rng::Rng;
@@ -11,6 +11,7 @@ use second::registers::IMAGE_LEN;
 /// The editions by name.
 pub const FIRST: Edition = EDITIONS[0];
 pub const SECOND: Edition = EDITIONS[1];
+pub const THIRD: Edition = EDITIONS[2];
 
 /// A finished night: its image and its events.
 pub struct Made {
@@ -21,10 +22,19 @@ pub struct Made {
 /// One night in so many has its limits back to front.
 pub const REFUSED_EVERY: usize = 40;
 
-pub fn make_night(rng: &mut Rng, length: usize, wild: bool, coverage: &mut Coverage) -> Made {
+/// A night of an edition, with the condition event that it has.
+pub fn make_night(
+    rng: &mut Rng,
+    edition: Edition,
+    length: usize,
+    wild: bool,
+    coverage: &mut Coverage,
+) -> Made {
     let image = make_image(rng, wild);
-    let mut maker = Maker::new(rng.clone(), &image, wild);
+    let conditions = if edition.lasting { Conditions::Lasting } else { Conditions::OneTime };
+    let mut maker = Maker::new(rng.clone(), &image, wild, conditions);
     rng.next();
+    coverage.begin(edition);
     let mut events = Vec::with_capacity(length);
     while events.len() < length {
         let event = maker.next();
@@ -50,7 +60,7 @@ pub fn night_length(rng: &mut Rng, index: usize) -> usize {
     match index % 250 {
         0 => 0,
         1 => 1,
-        2 => 5000,
+        2 | 127 => 5000,
         3 => 1001,
         n if n % 25 == 4 => 500 + rng.below(1500),
         n if n % 5 == 0 => 2 + rng.below(40),
@@ -58,11 +68,12 @@ pub fn night_length(rng: &mut Rng, index: usize) -> usize {
     }
 }
 
-/// The edition of a night: two in three are of the newest, at any length.
+/// The edition of a night: half of them are of the newest, at any length.
 pub fn edition_of(index: usize) -> Edition {
-    match (index + index / 250) % 3 {
+    match (index + index / 250) % 4 {
         1 => FIRST,
-        _ => SECOND,
+        3 => SECOND,
+        _ => THIRD,
     }
 }
 
@@ -92,6 +103,9 @@ fn record_of(event: &Event) -> [u8; 12] {
         Event::Work { lane } => record[..2].copy_from_slice(&[3, lane]),
         Event::Hardware { lane } => record[..2].copy_from_slice(&[4, lane]),
         Event::Condition { flag_byte, mask } => record[..3].copy_from_slice(&[5, flag_byte, mask]),
+        Event::LastingCondition { flag_byte, on, off } => {
+            record[..4].copy_from_slice(&[5, flag_byte, on, off])
+        }
         Event::Sample { lane, value } => {
             let [high, low] = value.to_be_bytes();
             record[..4].copy_from_slice(&[6, lane, high, low]);

@@ -1,6 +1,7 @@
 //! Sound states that no start need lead to.
 
 use crate::image::{limits, make_image, put_limits, turned_round};
+use crate::lasting::{index, OF_CONDITIONS, OF_RECEIVED_POWER};
 use crate::rng::Rng;
 use crate::state::State;
 use second::applications::find_descriptor;
@@ -9,7 +10,8 @@ use second::module::as_copied;
 use second::registers::*;
 
 /// Builds a state meant to be sound, with paths in any state, bits pending,
-/// groups in progress at any point; the caller asks whether it is.
+/// groups in progress at any point, some of the flags on; the caller asks
+/// whether it is.
 pub fn make_sound_state(rng: &mut Rng) -> State {
     let mut image = make_image(rng, true);
     // Bytes that no start would leave: soundness says nothing of them.
@@ -38,6 +40,14 @@ pub fn make_sound_state(rng: &mut Rng) -> State {
         put(&mut state.image, CONFIG_STATUS, lane, rng.pick(&[0, 1, 2, 7, 15]));
     }
     state.image[DP_INIT_PENDING] = 0;
+
+    // What is on is 1 in its flag byte; not every flag that is 1 is on.
+    for flag_byte in OF_CONDITIONS.into_iter().chain(OF_RECEIVED_POWER) {
+        let lanes = state.image[P11 + flag_byte as usize] & rng.byte();
+        for lane in LaneSet(lanes) {
+            state.lanes[lane as usize].on |= 1 << index(flag_byte);
+        }
+    }
 
     // Whole paths on lanes that are still free.
     let mut free = 0xFFu8;

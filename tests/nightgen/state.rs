@@ -48,6 +48,11 @@ impl State {
         self.lanes_where(|lane| self.apply(lane).is_some())
     }
 
+    /// The lanes on which something is on.
+    pub fn with_something_on(&self) -> u8 {
+        self.lanes_where(|lane| self.lanes[lane as usize].on != 0)
+    }
+
     pub fn nibble(&self, place: usize, lane: u8) -> u8 {
         self.image[place + lane as usize / 2] >> (4 * (lane % 2)) & 15
     }

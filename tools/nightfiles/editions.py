@@ -6,7 +6,7 @@ An image of an edition that is shorter than the module's has zeros on the pages 
 
 from typing import NamedTuple
 
-from .records import CONDITION, HARDWARE, READ, SAMPLE, WORK, WRITE
+from .records import CONDITION, HARDWARE, LASTING_CONDITION, READ, SAMPLE, WORK, WRITE
 
 IMAGE_AT = 16
 
@@ -22,9 +22,11 @@ def edition(number, image_length, kinds):
     return Edition(number, image_length, IMAGE_AT + image_length, kinds)
 
 
-SIX_KINDS = {1: WRITE, 2: READ, 3: WORK, 4: HARDWARE, 5: CONDITION, 6: SAMPLE}
+ONE_TIME_KINDS = {1: WRITE, 2: READ, 3: WORK, 4: HARDWARE, 5: CONDITION, 6: SAMPLE}
+LASTING_KINDS = {**ONE_TIME_KINDS, 5: LASTING_CONDITION}
 
 EDITIONS = {
-    1: edition(1, 768, SIX_KINDS),
-    2: edition(2, 896, SIX_KINDS),
+    1: edition(1, 768, ONE_TIME_KINDS),
+    2: edition(2, 896, ONE_TIME_KINDS),
+    3: edition(3, 896, LASTING_KINDS),
 }

@@ -69,16 +69,18 @@ class Number(Field):
 
 
 class Mask(Field):
-    """A byte with a bit for each lane."""
+    """A byte with a bit for each lane, behind a word where there is more than one of them."""
 
-    pattern = r" +\w+"
-    form = " MASK"
+    def __init__(self, word=""):
+        self.word = " " + word if word else ""
+        self.pattern = (r" +" + word if word else "") + r" +\w+"
+        self.form = self.word + " MASK"
 
     def show(self, data, selection):
-        return " %02x" % data[0]
+        return "%s %02x" % (self.word, data[0])
 
     def pack(self, text, selection):
-        return bytes([byte_of(text)])
+        return bytes([byte_of(text.split()[-1])])
 
 
 class Address(Field):
@@ -184,4 +186,5 @@ READ = Kind("read", Address(), Number("count"))
 WORK = Kind("work", LANE)
 HARDWARE = Kind("hardware", LANE)
 CONDITION = Kind("condition", FlagByte(), Mask())
+LASTING_CONDITION = Kind("condition", FlagByte(), Mask("on"), Mask("off"))
 SAMPLE = Kind("sample", LANE, Number("value", 2))

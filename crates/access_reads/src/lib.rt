@@ -19,13 +19,18 @@ fn clear(image: &mut [u8], i: usize, n: usize)
     }
 }
 
-// The n bytes at an offset of the half of memory that starts at an index: the window is gone before any is cleared.
+// The n bytes at an offset of the half of memory that starts at an index: the window is gone before any is cleared, and a read that touches none of those clears nothing.
 fn read_half(image: &mut [u8], start: usize, offset: usize, n: usize, buffer: &mut [u8])
     requires { ⌜ (length (now image) ≡ imageLength) × (start + offset + n ≤ imageLength) × (n ≤ length (now buffer)) ⌝ }
     ensures { λ _. ⌜ ReadOut (now (image .entry)) (start + offset) n (now (buffer .entry)) (now (image .exit)) (now (buffer .exit)) ⌝ }
 {
     pages_window::take(image, start, offset, n, buffer);
-    clear(image, start + offset, n);
+    let i = start + offset;
+    if (i <= map::LAST_MODULE_FLAGS)
+        | ((i < map::FLAG_BYTES + (map::FLAG_BYTE_COUNT as usize)) & (map::FLAG_BYTES < i + n))
+    {
+        clear(image, i, n);
+    }
 }
 
 // A read: count bytes from an address on, into the front of the buffer.

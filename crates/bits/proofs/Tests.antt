@@ -109,6 +109,12 @@ module _ {ℓ} {A : Type ℓ} {b : Bool} where
   unfolding onlyIf
   only-false f x e = rw (e, onlyIf)
 
+-- what both have, the one that is picked has
+pub pick-has : {A : Type 0} (P : A → Type 0) (b : Bool) {x y : A} → (b ≡ true → P x) → (b ≡ false → P y) → P (pick b x y)
+unfolding pick
+pick-has P true f g = f refl
+pick-has P false f g = g refl
+
 -- a choice of tests
 pub choose : (t a b : Bool) → either (both b (not t)) (both a t) ≡ pick t a b
 unfolding both either pick

@@ -1,1 +1,1 @@
-// Cases of command messages and of the file's editions, computed by the checker from the model. No code.
+// Cases of command messages, computed by the checker from the model. No code.

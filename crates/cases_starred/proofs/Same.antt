@@ -90,7 +90,10 @@ same-records [] [] e = refl
 same-records [] (q ∷ qs) e = absurd (clash e refl)
 same-records (p ∷ ps) [] e = absurd (clash e refl)
 same-records (p ∷ ps) (q ∷ qs) e =
-    ap₂ _∷_ (λ i. record { stage = same-stage (p .stage) (q .stage) (both-l _ _ e) i }) (same-records ps qs (both-r _ _ e))
+    ap₂ _∷_ (λ i. record {
+      stage = same-stage (p .stage) (q .stage) (both-l _ _ (both-l _ _ e)) i;
+      on = eqb-true (p .on) (q .on) (both-r _ _ (both-l _ _ e)) i;
+    }) (same-records ps qs (both-r _ _ e))
 
 -- states that pass the test are equal, whole
 pub same-state : (s t : State) → sameState s t ≡ true → s ≡ t

@@ -18,7 +18,7 @@ use Rattle.model.specs.Outcome.{listRoom}
 use Rattle.model.specs.Text.{ascii, badLine}
 use Rattle.model.specs.Night.{linesFrom}
 use Rattle.model.specs.declared.answer.Answer.{Answer}
-use Rattle.model.specs.declared.event.Call.the-variants.{Write, Read, Work, Hardware, Condition, Sample}
+use Rattle.model.specs.declared.event.Call.the-variants.{Write, Read, Work, Hardware, Condition, Sample, Lasting}
 use Rattle.model.specs.declared.event.Event.{Event}
 use Rattle.cases_starred.specs.Same.{sameBytes, sameState}
 
@@ -96,6 +96,9 @@ hardware lane = event (Hardware lane) []
 
 abbrev pub condition : ℕ → ℕ → Event
 condition flag mask = event (Condition flag mask) []
+
+abbrev pub lasting : ℕ → ℕ → ℕ → Event
+lasting flag on off = event (Lasting flag on off) []
 
 abbrev pub sample : ℕ → ℕ → Event
 sample lane power = event (Sample lane power) []

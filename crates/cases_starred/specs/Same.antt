@@ -27,7 +27,7 @@ unfoldable pub sameRecords : List LaneRecord → List LaneRecord → Bool
 sameRecords [] [] = true
 sameRecords [] (q ∷ qs) = false
 sameRecords (p ∷ ps) [] = false
-sameRecords (p ∷ ps) (q ∷ qs) = both (sameStage (p .stage) (q .stage)) (sameRecords ps qs)
+sameRecords (p ∷ ps) (q ∷ qs) = both (both (sameStage (p .stage) (q .stage)) (eqb (p .on) (q .on))) (sameRecords ps qs)
 
 unfoldable pub sameState : State → State → Bool
 sameState s t = both (sameBytes (s .image) (t .image)) (sameRecords (s .working .lanes) (t .working .lanes))

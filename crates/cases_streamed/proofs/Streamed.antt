@@ -11,7 +11,7 @@ use Rattle.bits.specs.Word.{word, putWord}
 use Rattle.model.specs.Map.{settingAt, inRanges, writable, clearing, kept}
 use Rattle.model.specs.PathStates.{stateOf, resting, commissioned}
 use Rattle.model.specs.Answers.{isDone}
-use Rattle.model.specs.Records.{isInProgress, isPass, isPassing, heldIn, anyInProgress, withStage, withStages, freedWorking, withVerdict, advancedWorking}
+use Rattle.model.specs.Records.{isInProgress, isPass, isPassing, heldIn, anyInProgress, onLanes, withStage, withStages, withOn, withOns, withFlagOn, freedWorking, withVerdict, advancedWorking}
 use Rattle.model.specs.Applications.{descriptorAt, listReaches, hostLaneCount, isPresent, lookup}
 use Rattle.model.specs.View.{appSel, pathId, explicit, settingsAt, settingValues, limitsOf, settingsOf, statesOf, applicationsOf, viewOf, isUsed, samePath, pathOf}
 use Rattle.model.specs.Groups.{joined, releasedWith, inGroup, groupOf}
@@ -20,7 +20,7 @@ use Rattle.model.specs.Registers.{withStatus, withPending, withPathState, withF
 use Rattle.model.specs.Triggers.{isMarked, markedStage, stageAfter, markedState, isIgnored, triggeredState}
 use Rattle.model.specs.Work.{byModule, writtenSettings, withActive, copyLane, copyNext, copyGroup, isRelease, pendingAfter, commissionMask, closedState, closingEffect, copiedState, workEffectBy, workEffectOn, workEffect}
 use Rattle.model.specs.Hardware.{someBit, toDeinit, toReinit, toDeactivate, signalsOf, nextState, isState, isInitialized, enteredImage, movedImage, movedPathImage, hardwareImage}
-use Rattle.model.specs.Flags.{isConditionFlag, conditionImage, raisedImage, sampledImage, isUnmasked, interrupts, settledImage}
+use Rattle.model.specs.Flags.{isConditionFlag, conditionImage, conditionOn, lastingState, raisedImage, sampledImage, sampledOn, sampledState, isRead, shownAgainImage, isUnmasked, interrupts, settledImage}
 use Rattle.model.specs.Pages.{findPage, pageStart, selectedStart, indexOf, selectedImage}
 use Rattle.model.specs.Access.{storedState, byteWrittenState, bytesWrittenState, writes, runsCommand, endedState, shownByte, takenBytes, clearedImage, halfEnd, isBadAccess}
 use Rattle.model.specs.Start.{isStateByte, startValue, startByte, startedState}
@@ -33,17 +33,12 @@ use Rattle.model.specs.Stream.{hasImage, afterImage, leadingRecords, goodRecord
 use Rattle.cases_starred.specs.Same.{sameBytes}
 use Rattle.cases_starred.specs.Case.{linesOf, allHold, blank, holding, fourLanes, limited}
 use Rattle.cases_worked.specs.Files.{recordOf, padded, recordsOf, headerOf, fileOf, flat}
-use Rattle.cases_streamed.specs.Editions.{headed, exampleOf, bothPrint, editions}
 use Rattle.cases_streamed.specs.Streamed.{three, night, counting, longer, numbered, backToFront, cut, byteByByte, lent, feeds, prints, printsFrom, printsInOne, misheaded, noRecord, refusing, nights, refusedNights}
 
 pub nights-hold : T (allHold nights)
-unfolding pick onlyIf both either implies field withField get put digit laneField each tab anyBelow allBelow seek has maskOf nextIn word putWord settingAt inRanges writable clearing kept stateOf resting commissioned isDone isInProgress isPass isPassing heldIn anyInProgress withStage withStages freedWorking withVerdict advancedWorking descriptorAt listReaches hostLaneCount isPresent lookup appSel pathId explicit settingsAt settingValues limitsOf settingsOf statesOf applicationsOf viewOf isUsed samePath pathOf within joined releasedWith inGroup groupOf someIn everyIn otherAppSel misplaced incomplete crossing outOfLimits unsupported tooLate wrongState applyBy applyVerdict pathRelease releaseVerdict verdictOf withStatus isMarked markedStage stageAfter markedState isIgnored triggeredState byModule writtenSettings withActive copyLane copyNext copyGroup isRelease withPending pendingAfter commissionMask closedState closingEffect copiedState workEffectBy workEffectOn workEffect someBit toDeinit toReinit toDeactivate signalsOf nextState isState withPathState withFlags isInitialized enteredImage movedImage movedPathImage hardwareImage isConditionFlag conditionImage raisedImage sampledImage isUnmasked anyOf interrupts settledImage findPage pageStart selectedStart indexOf selectedImage storedState byteWrittenState bytesWrittenState writes runsCommand endedState shownByte takenBytes clearedImage halfEnd isBadAccess isStateByte startValue startByte startedState firstOf isFlat isBackToFront wrongLength imageRefusals startRefusals noSuchLane isBusy isUnused eventRefusals readEffect eventEffect doneStep refusedStep answeredStep step run recordCount isHeader isWholeLength editionAmong carriedImage firstBytes recordIn writtenBytes usedBytes isRecord callOf eventOf eventsIn isWellFormed fileCheckBy fileCheckUpTo ascii digitText decimalUpTo decimal hexBytes line badLine linesFrom nightOf printedTextBy printedUpTo sameBytes linesOf allHold blank holding fourLanes limited recordOf padded recordsOf headerOf fileOf flat hasImage afterImage leadingRecords goodRecords goodLines isAll streamedBy streamed begun refused tookHeader startedBy wholeImage tookImage played tookRecord tookIn took endedIn ended fed fedAll flatten three night counting longer numbered backToFront cut byteByByte lent feeds prints printsFrom printsInOne misheaded noRecord refusing
+unfolding pick onlyIf both either implies field withField get put digit laneField each tab anyBelow allBelow seek has maskOf nextIn word putWord settingAt inRanges writable clearing kept stateOf resting commissioned isDone isInProgress isPass isPassing heldIn anyInProgress onLanes withStage withStages withOn withOns withFlagOn freedWorking withVerdict advancedWorking descriptorAt listReaches hostLaneCount isPresent lookup appSel pathId explicit settingsAt settingValues limitsOf settingsOf statesOf applicationsOf viewOf isUsed samePath pathOf within joined releasedWith inGroup groupOf someIn everyIn otherAppSel misplaced incomplete crossing outOfLimits unsupported tooLate wrongState applyBy applyVerdict pathRelease releaseVerdict verdictOf withStatus isMarked markedStage stageAfter markedState isIgnored triggeredState byModule writtenSettings withActive copyLane copyNext copyGroup isRelease withPending pendingAfter commissionMask closedState closingEffect copiedState workEffectBy workEffectOn workEffect someBit toDeinit toReinit toDeactivate signalsOf nextState isState withPathState withFlags isInitialized enteredImage movedImage movedPathImage hardwareImage isConditionFlag conditionImage conditionOn lastingState raisedImage sampledImage sampledOn sampledState isRead shownAgainImage isUnmasked anyOf interrupts settledImage findPage pageStart selectedStart indexOf selectedImage storedState byteWrittenState bytesWrittenState writes runsCommand endedState shownByte takenBytes clearedImage halfEnd isBadAccess isStateByte startValue startByte startedState firstOf isFlat isBackToFront wrongLength imageRefusals startRefusals noSuchLane isBusy isUnused eventRefusals readEffect eventEffect doneStep refusedStep answeredStep step run recordCount isHeader isWholeLength editionAmong carriedImage firstBytes recordIn writtenBytes usedBytes isRecord callOf eventOf eventsIn isWellFormed fileCheckBy fileCheckUpTo ascii digitText decimalUpTo decimal hexBytes line badLine linesFrom nightOf printedTextBy printedUpTo sameBytes linesOf allHold blank holding fourLanes limited recordOf padded recordsOf headerOf fileOf flat hasImage afterImage leadingRecords goodRecords goodLines isAll streamedBy streamed begun refused tookHeader startedBy wholeImage tookImage played tookRecord tookIn took endedIn ended fed fedAll flatten three night counting longer numbered backToFront cut byteByByte lent feeds prints printsFrom printsInOne misheaded noRecord refusing
 nights-hold = tt
 
 pub refused-hold : T (allHold refusedNights)
 unfolding pick both either implies field get tab allBelow word putWord isDone firstOf isFlat isBackToFront wrongLength imageRefusals startRefusals recordCount isHeader isWholeLength editionAmong carriedImage firstBytes recordIn writtenBytes usedBytes isRecord isWellFormed fileCheckBy fileCheckUpTo ascii digitText decimalUpTo decimal badLine printedTextBy printedUpTo hasImage streamedBy streamed begun refused tookHeader startedBy wholeImage tookImage tookIn took endedIn ended fed fedAll sameBytes linesOf allHold blank holding limited recordOf padded recordsOf headerOf fileOf flat flatten three longer backToFront lent feeds prints printsFrom printsInOne refusing
 refused-hold = tt
-
-pub editions-hold : T (allHold editions)
-unfolding pick onlyIf both either implies field withField get put digit laneField each tab anyBelow allBelow seek has maskOf nextIn word putWord settingAt inRanges writable clearing kept stateOf resting commissioned isDone isInProgress isPass isPassing heldIn anyInProgress withStage withStages freedWorking withVerdict advancedWorking descriptorAt listReaches hostLaneCount isPresent lookup appSel pathId explicit settingsAt settingValues limitsOf settingsOf statesOf applicationsOf viewOf isUsed samePath pathOf within joined releasedWith inGroup groupOf someIn everyIn otherAppSel misplaced incomplete crossing outOfLimits unsupported tooLate wrongState applyBy applyVerdict pathRelease releaseVerdict verdictOf withStatus isMarked markedStage stageAfter markedState isIgnored triggeredState byModule writtenSettings withActive copyLane copyNext copyGroup isRelease withPending pendingAfter commissionMask closedState closingEffect copiedState workEffectBy workEffectOn workEffect someBit toDeinit toReinit toDeactivate signalsOf nextState isState withPathState withFlags isInitialized enteredImage movedImage movedPathImage hardwareImage isConditionFlag conditionImage raisedImage sampledImage isUnmasked anyOf interrupts settledImage findPage pageStart selectedStart indexOf selectedImage storedState byteWrittenState bytesWrittenState writes runsCommand endedState shownByte takenBytes clearedImage halfEnd isBadAccess isStateByte startValue startByte startedState firstOf isFlat isBackToFront wrongLength imageRefusals startRefusals noSuchLane isBusy isUnused eventRefusals readEffect eventEffect doneStep refusedStep answeredStep step run recordCount isHeader isWholeLength editionAmong carriedImage firstBytes recordIn writtenBytes usedBytes isRecord callOf eventOf eventsIn isWellFormed fileCheckBy fileCheckUpTo ascii digitText decimalUpTo decimal hexBytes line badLine linesFrom nightOf printedTextBy printedUpTo sameBytes linesOf allHold blank holding fourLanes limited recordOf padded recordsOf headerOf fileOf flat hasImage afterImage leadingRecords goodRecords goodLines isAll streamedBy streamed begun refused tookHeader startedBy wholeImage tookImage played tookRecord tookIn took endedIn ended fed fedAll flatten three night counting longer numbered backToFront cut byteByByte lent feeds prints printsFrom printsInOne misheaded noRecord refusing headed exampleOf bothPrint
-editions-hold = tt

@@ -1,3 +1,2 @@
 -- The nights in pieces.
 pub mod Streamed
-pub mod Editions

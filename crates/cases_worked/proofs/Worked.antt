@@ -10,7 +10,7 @@ use Rattle.bits.specs.Word.{word, putWord}
 use Rattle.model.specs.Map.{settingAt, inRanges, writable, clearing, kept}
 use Rattle.model.specs.PathStates.{stateOf, resting, commissioned}
 use Rattle.model.specs.Answers.{isDone}
-use Rattle.model.specs.Records.{isInProgress, isPass, isPassing, heldIn, anyInProgress, withStage, withStages, freedWorking, withVerdict, advancedWorking}
+use Rattle.model.specs.Records.{isInProgress, isPass, isPassing, heldIn, anyInProgress, onLanes, withStage, withStages, withOn, withOns, withFlagOn, freedWorking, withVerdict, advancedWorking}
 use Rattle.model.specs.Applications.{descriptorAt, listReaches, hostLaneCount, isPresent, lookup}
 use Rattle.model.specs.View.{appSel, pathId, explicit, settingsAt, settingValues, limitsOf, settingsOf, statesOf, applicationsOf, viewOf, isUsed, samePath, pathOf}
 use Rattle.model.specs.Groups.{joined, releasedWith, inGroup, groupOf}
@@ -20,7 +20,7 @@ use Rattle.model.specs.Registers.{withStatus, withPending, withPathState, withF
 use Rattle.model.specs.Triggers.{isMarked, markedStage, stageAfter, markedState, isIgnored, triggeredState}
 use Rattle.model.specs.Work.{byModule, writtenSettings, withActive, copyLane, copyNext, copyGroup, isRelease, pendingAfter, commissionMask, closedState, closingEffect, copiedState, workEffectBy, workEffectOn, workEffect}
 use Rattle.model.specs.Hardware.{someBit, toDeinit, toReinit, toDeactivate, signalsOf, nextState, isState, isInitialized, enteredImage, movedImage, movedPathImage, hardwareImage}
-use Rattle.model.specs.Flags.{isConditionFlag, conditionImage, raisedImage, sampledImage, isUnmasked, interrupts, settledImage}
+use Rattle.model.specs.Flags.{isConditionFlag, conditionImage, conditionOn, lastingState, raisedImage, sampledImage, sampledOn, sampledState, isRead, shownAgainImage, isUnmasked, interrupts, settledImage}
 use Rattle.model.specs.Pages.{findPage, pageStart, selectedStart, indexOf, selectedImage}
 use Rattle.model.specs.Access.{storedState, byteWrittenState, bytesWrittenState, writes, runsCommand, endedState, shownByte, takenBytes, clearedImage, halfEnd, isBadAccess}
 use Rattle.model.specs.Start.{isStateByte, startValue, startByte, startedState}
@@ -35,9 +35,9 @@ use Rattle.cases_worked.specs.Worked.{twoLanes, walked, muted, stagedAne
 use Rattle.cases_worked.specs.Files.{recordOf, padded, recordsOf, headerOf, fileOf, allPrint, flat, files}
 
 pub worked-hold : T (allHold worked)
-unfolding pick onlyIf both either implies field withField get put digit laneField each tab anyBelow allBelow seek has maskOf nextIn word putWord settingAt inRanges writable clearing kept stateOf resting commissioned isDone isInProgress isPass isPassing heldIn anyInProgress withStage withStages freedWorking withVerdict advancedWorking descriptorAt listReaches hostLaneCount isPresent lookup appSel pathId explicit settingsAt settingValues limitsOf settingsOf statesOf applicationsOf viewOf isUsed samePath pathOf within joined releasedWith inGroup groupOf someIn everyIn otherAppSel misplaced incomplete crossing outOfLimits unsupported tooLate wrongState applyBy applyVerdict pathRelease releaseVerdict verdictOf sameTrigger sameVerdict agrees sameSettings withStatus isMarked markedStage stageAfter markedState isIgnored triggeredState byModule writtenSettings withActive copyLane copyNext copyGroup isRelease withPending pendingAfter commissionMask closedState closingEffect copiedState workEffectBy workEffectOn workEffect someBit toDeinit toReinit toDeactivate signalsOf nextState isState withPathState withFlags isInitialized enteredImage movedImage movedPathImage hardwareImage isConditionFlag conditionImage raisedImage sampledImage isUnmasked anyOf interrupts settledImage findPage pageStart selectedStart indexOf selectedImage storedState byteWrittenState bytesWrittenState writes runsCommand endedState shownByte takenBytes clearedImage halfEnd isBadAccess isStateByte startValue startByte startedState firstOf isFlat isBackToFront wrongLength imageRefusals startRefusals noSuchLane isBusy isUnused eventRefusals readEffect eventEffect doneStep refusedStep answeredStep step run ending ascii digitText decimalUpTo decimal hexBytes line badLine linesFrom sameBytes sameStage sameRecords sameState linesOf shownBy holds changesNothing allHold blank holding fourLanes limited applied twoLanes walked muted stagedAnew appliedAbove
+unfolding pick onlyIf both either implies field withField get put digit laneField each tab anyBelow allBelow seek has maskOf nextIn word putWord settingAt inRanges writable clearing kept stateOf resting commissioned isDone isInProgress isPass isPassing heldIn anyInProgress onLanes withStage withStages withOn withOns withFlagOn freedWorking withVerdict advancedWorking descriptorAt listReaches hostLaneCount isPresent lookup appSel pathId explicit settingsAt settingValues limitsOf settingsOf statesOf applicationsOf viewOf isUsed samePath pathOf within joined releasedWith inGroup groupOf someIn everyIn otherAppSel misplaced incomplete crossing outOfLimits unsupported tooLate wrongState applyBy applyVerdict pathRelease releaseVerdict verdictOf sameTrigger sameVerdict agrees sameSettings withStatus isMarked markedStage stageAfter markedState isIgnored triggeredState byModule writtenSettings withActive copyLane copyNext copyGroup isRelease withPending pendingAfter commissionMask closedState closingEffect copiedState workEffectBy workEffectOn workEffect someBit toDeinit toReinit toDeactivate signalsOf nextState isState withPathState withFlags isInitialized enteredImage movedImage movedPathImage hardwareImage isConditionFlag conditionImage conditionOn lastingState raisedImage sampledImage sampledOn sampledState isRead shownAgainImage isUnmasked anyOf interrupts settledImage findPage pageStart selectedStart indexOf selectedImage storedState byteWrittenState bytesWrittenState writes runsCommand endedState shownByte takenBytes clearedImage halfEnd isBadAccess isStateByte startValue startByte startedState firstOf isFlat isBackToFront wrongLength imageRefusals startRefusals noSuchLane isBusy isUnused eventRefusals readEffect eventEffect doneStep refusedStep answeredStep step run ending ascii digitText decimalUpTo decimal hexBytes line badLine linesFrom sameBytes sameStage sameRecords sameState linesOf shownBy holds changesNothing allHold blank holding fourLanes limited applied twoLanes walked muted stagedAnew appliedAbove
 worked-hold = tt
 
 pub files-print : T (allPrint files)
-unfolding pick onlyIf both either implies field withField get put digit laneField each tab anyBelow allBelow seek has maskOf nextIn word putWord settingAt inRanges writable clearing kept stateOf resting commissioned isDone isInProgress isPass isPassing heldIn anyInProgress withStage withStages freedWorking withVerdict advancedWorking descriptorAt listReaches hostLaneCount isPresent lookup appSel pathId explicit settingsAt settingValues limitsOf settingsOf statesOf applicationsOf viewOf isUsed samePath pathOf within joined releasedWith inGroup groupOf someIn everyIn otherAppSel misplaced incomplete crossing outOfLimits unsupported tooLate wrongState applyBy applyVerdict pathRelease releaseVerdict verdictOf withStatus isMarked markedStage stageAfter markedState isIgnored triggeredState byModule writtenSettings withActive copyLane copyNext copyGroup isRelease withPending pendingAfter commissionMask closedState closingEffect copiedState workEffectBy workEffectOn workEffect someBit toDeinit toReinit toDeactivate signalsOf nextState isState withPathState withFlags isInitialized enteredImage movedImage movedPathImage hardwareImage isConditionFlag conditionImage raisedImage sampledImage isUnmasked anyOf interrupts settledImage findPage pageStart selectedStart indexOf selectedImage storedState byteWrittenState bytesWrittenState writes runsCommand endedState shownByte takenBytes clearedImage halfEnd isBadAccess isStateByte startValue startByte startedState firstOf isFlat isBackToFront wrongLength imageRefusals startRefusals noSuchLane isBusy isUnused eventRefusals readEffect eventEffect doneStep refusedStep answeredStep step run recordCount isHeader isWholeLength editionAmong carriedImage firstBytes recordIn writtenBytes usedBytes isRecord callOf eventOf eventsIn isWellFormed fileCheckBy fileCheckUpTo ascii digitText decimalUpTo decimal hexBytes line badLine linesFrom nightOf printedTextBy printedUpTo sameBytes linesOf shownBy holds allHold blank holding fourLanes limited applied recordOf padded recordsOf headerOf fileOf allPrint flat
+unfolding pick onlyIf both either implies field withField get put digit laneField each tab anyBelow allBelow seek has maskOf nextIn word putWord settingAt inRanges writable clearing kept stateOf resting commissioned isDone isInProgress isPass isPassing heldIn anyInProgress onLanes withStage withStages withOn withOns withFlagOn freedWorking withVerdict advancedWorking descriptorAt listReaches hostLaneCount isPresent lookup appSel pathId explicit settingsAt settingValues limitsOf settingsOf statesOf applicationsOf viewOf isUsed samePath pathOf within joined releasedWith inGroup groupOf someIn everyIn otherAppSel misplaced incomplete crossing outOfLimits unsupported tooLate wrongState applyBy applyVerdict pathRelease releaseVerdict verdictOf withStatus isMarked markedStage stageAfter markedState isIgnored triggeredState byModule writtenSettings withActive copyLane copyNext copyGroup isRelease withPending pendingAfter commissionMask closedState closingEffect copiedState workEffectBy workEffectOn workEffect someBit toDeinit toReinit toDeactivate signalsOf nextState isState withPathState withFlags isInitialized enteredImage movedImage movedPathImage hardwareImage isConditionFlag conditionImage conditionOn lastingState raisedImage sampledImage sampledOn sampledState isRead shownAgainImage isUnmasked anyOf interrupts settledImage findPage pageStart selectedStart indexOf selectedImage storedState byteWrittenState bytesWrittenState writes runsCommand endedState shownByte takenBytes clearedImage halfEnd isBadAccess isStateByte startValue startByte startedState firstOf isFlat isBackToFront wrongLength imageRefusals startRefusals noSuchLane isBusy isUnused eventRefusals readEffect eventEffect doneStep refusedStep answeredStep step run recordCount isHeader isWholeLength editionAmong carriedImage firstBytes recordIn writtenBytes usedBytes isRecord callOf eventOf eventsIn isWellFormed fileCheckBy fileCheckUpTo ascii digitText decimalUpTo decimal hexBytes line badLine linesFrom nightOf printedTextBy printedUpTo sameBytes linesOf shownBy holds allHold blank holding fourLanes limited applied recordOf padded recordsOf headerOf fileOf allPrint flat
 files-print = tt

@@ -11,7 +11,7 @@ use Rattle.model.specs.Map.{Image}
 use Rattle.model.specs.Step.{event}
 use Rattle.model.specs.Night.{printedText}
 use Rattle.model.specs.declared.event.Call.{Call}
-use Rattle.model.specs.declared.event.Call.the-variants.{Write, Read, Work, Hardware, Condition, Sample}
+use Rattle.model.specs.declared.event.Call.the-variants.{Write, Read, Work, Hardware, Condition, Sample, Lasting}
 use Rattle.model.specs.declared.event.Event.{Event}
 use Rattle.cases_starred.specs.Same.{sameBytes}
 use Rattle.cases_starred.specs.Case.{linesOf, blank, holding, limited, write, read, work, hardware, condition, sample, selectPage}
@@ -25,6 +25,7 @@ recordOf (Work lane) bytes = 3 ∷ lane ∷ []
 recordOf (Hardware lane) bytes = 4 ∷ lane ∷ []
 recordOf (Condition flag mask) bytes = 5 ∷ flag ∷ mask ∷ []
 recordOf (Sample lane power) bytes = 6 ∷ lane ∷ power / 256 ∷ power % 256 ∷ []
+recordOf (Lasting flag on off) bytes = 5 ∷ flag ∷ on ∷ off ∷ []
 
 -- .. and zeros, 12 in all
 unfoldable pub padded : List ℕ → List ℕ

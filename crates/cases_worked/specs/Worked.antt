@@ -260,7 +260,7 @@ worked =
           "0 0" ∷ "1 0" ∷ "2 0" ∷ "3 0 01 10" ∷ "4 0 c0" ∷ "5 0" ∷ "6 0 aa" ∷ "7 0" ∷ "8 0 00 00" ∷ "9 0" ∷ "10 0 00 00" ∷ "11 0 c0" ∷ "12 0"
           ∷ "13 0 c1" ∷ "14 0" ∷ "15 0 07 00" ∷ "16 0" ∷ "17 0 07 02" ∷ "18 0 c2" ∷ "19 0" ∷ "20 0 00 00" ∷ [];
     })
-    -- flags, masks and lower 3.0: a condition, a sample above both high limits, and reads that clear what they show
+    -- flags, masks and lower 3.0: a condition that comes once, a sample above both high limits, which lasts, and reads that clear what they show
     ∷ holds (record {
       image = holding (on02 192) (0x00 ∷ 0x64 ∷ 0x00 ∷ 0x0a ∷ 0x00 ∷ 0x50 ∷ 0x00 ∷ 0x14 ∷ []) blank;
       events =
@@ -269,8 +269,8 @@ worked =
           ∷ read 134 20 ∷ read 3 1 ∷ read 200 2 ∷ read 134 20 ∷ condition 134 0x01 ∷ hardware 9 ∷ sample 8 1 ∷ work 8 ∷ [];
       seen =
           "0 0" ∷ "1 0 06" ∷ "2 0" ∷ "3 0" ∷ "4 0" ∷ "5 0" ∷ "6 0 06" ∷ "7 0" ∷ "8 0" ∷ "9 0 07" ∷ "10 0" ∷ "11 0 06" ∷ "12 0" ∷ "13 0 81"
-          ∷ "14 0 00 00 00 00 00 00 00 00 00 00 00 00 00 00 00 80 00 80 00 00" ∷ "15 0 07" ∷ "16 0 00 65"
-          ∷ "17 0 00 00 00 00 00 00 00 00 00 00 00 00 00 00 00 00 00 00 00 00" ∷ "18 8" ∷ "19 8" ∷ "20 8" ∷ "21 8" ∷ [];
+          ∷ "14 0 00 00 00 00 00 00 00 00 00 00 00 00 00 00 00 80 00 80 00 00" ∷ "15 0 06" ∷ "16 0 00 65"
+          ∷ "17 0 00 00 00 00 00 00 00 00 00 00 00 00 00 00 00 80 00 80 00 00" ∷ "18 8" ∷ "19 8" ∷ "20 8" ∷ "21 8" ∷ [];
     })
     -- samples at each limit and one beyond it, a lane each
     ∷ holds (record {

@@ -11,12 +11,10 @@ const MODULE_MASKS: usize = 31;
 
 const COMMAND_COMPLETE: u8 = 0x40;
 
-// The twenty flag bytes 11h:134-153, and their masks 10h:213-232.
-const FLAG_BYTES: usize = map::PAGE_11 + (134 - 128);
-
+// The flag bytes' masks, 10h:213-232.
 const FLAG_MASKS: usize = map::PAGE_10 + (213 - 128);
 
-const FLAG_BYTE_COUNT: usize = 20;
+const FLAG_BYTE_COUNT: usize = map::FLAG_BYTE_COUNT as usize;
 
 // Whether the interrupt is due: the flags that no mask bit covers, all bytes gathered in one.
 fn is_due(image: &[u8]) -> bool
@@ -25,7 +23,7 @@ fn is_due(image: &[u8]) -> bool
 {
     let mut due = 0u8;
     for k in 0..FLAG_BYTE_COUNT {
-        due = due | (image[FLAG_BYTES + k] & !image[FLAG_MASKS + k]);
+        due = due | (image[map::FLAG_BYTES + k] & !image[FLAG_MASKS + k]);
     }
     let own = image[map::MODULE_FLAGS] & COMMAND_COMPLETE & !image[MODULE_MASKS];
     (own | due) != 0

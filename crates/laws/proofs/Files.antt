@@ -1,6 +1,6 @@
 -- A header and a record are refused exactly when they have a fault; a night file, with any limit of records, is answered 9 exactly when it has
 -- a fault, and else what start answers to its image (01 "The night file"). Assumes nothing.
-use mathlib.Core.Path.{_≡_, refl, sym, ap, _∙_, subst}
+use mathlib.Core.Path.{_≡_, refl, ap, subst}
 use mathlib.Core.Bool.{Bool, true, false, not}
 use mathlib.Core.List.{List}
 use mathlib.Core.Logic.{_↔_, _≢_}
@@ -18,7 +18,7 @@ use Rattle.model.specs.Map.{imageLength}
 use Rattle.model.specs.Answers.{number, isDone}
 use Rattle.model.specs.Refusals.{firstOf, isFlat, isBackToFront, wrongLength, imageRefusals, startRefusals}
 use Rattle.model.specs.Outcome.{startOutcomeBy, startOutcome}
-use Rattle.model.specs.File.{Edition, formsWith, onceCall, laterEditions, editionAmong, editionOf, recordsOffset, recordLength, recordCount, isHeader, isWholeLength, carriedImage, imageIn, recordIn, kindOf, writeKind, readKind, workKind, hardwareKind, conditionKind, sampleKind, dataLimit, writtenBytes, usedBytes, isRecord, isWellFormed, fileCheckBy, fileCheckUpTo}
+use Rattle.model.specs.File.{Edition, formsWith, onceCall, lastingCall, laterEditions, editionAmong, editionOf, recordsOffset, recordLength, recordCount, isHeader, isWholeLength, carriedImage, imageIn, recordIn, kindOf, writeKind, readKind, workKind, hardwareKind, conditionKind, sampleKind, dataLimit, writtenBytes, usedBytes, isRecord, isWellFormed, fileCheckBy, fileCheckUpTo}
 use Rattle.model.specs.declared.answer.Answer.the-variants.{WrongLength, FlatMemory, Malformed, BackToFront}
 use Rattle.model.specs.declared.file.FileCheck.{FileCheck}
 use Rattle.model.specs.declared.file.FileCheck.the-variants.{Refused, Good}
@@ -89,10 +89,12 @@ record Listed (e : Edition) : Type 0 where
   some : 0 < conditionBytes e
 
 listed : (n : ℕ) → Listed (editionAmong laterEditions n)
+unfolding pick
 listed n =
     among-has Listed n laterEditions
     (row (record { conditionCall = onceCall; forms = refl; some = omega arith })
-    (first (record { conditionCall = onceCall; forms = refl; some = omega arith })))
+    (row (record { conditionCall = lastingCall; forms = refl; some = omega arith })
+    (first (record { conditionCall = onceCall; forms = refl; some = omega arith }))))
 
 module _ (e : Edition) (l : Listed e) (bytes : List ℕ) where
   abbrev used : ℕ

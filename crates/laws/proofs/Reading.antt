@@ -16,7 +16,7 @@ use Rattle.model.specs.State.{State}
 use Rattle.model.specs.Work.{Mode, closingEffect, workEffectBy, workEffectOn, workEffect}
 use Rattle.model.specs.Access.{takenBytes}
 use Rattle.model.specs.Refusals.{firstOf, eventRefusals}
-use Rattle.model.specs.Step.{readEffect, eventEffect, doneStep, refusedStep, answeredStep, step}
+use Rattle.model.specs.Step.{readCount, readEffect, eventEffect, doneStep, refusedStep, answeredStep, step}
 use Rattle.model.specs.Outcome.{stepOutcome}
 use Rattle.model.specs.declared.lane.Trigger.{Trigger}
 use Rattle.model.specs.declared.lane.Verdict.{Verdict}
@@ -24,9 +24,9 @@ use Rattle.model.specs.declared.lane.Verdict.the-variants.{Pass, Reject}
 use Rattle.model.specs.declared.lane.Stage.{Stage}
 use Rattle.model.specs.declared.lane.Stage.the-variants.{Idle, InProgress}
 use Rattle.model.specs.declared.event.Call.{Call}
-use Rattle.model.specs.declared.event.Call.the-variants.{Write, Read, Work, Hardware, Condition, Sample}
+use Rattle.model.specs.declared.event.Call.the-variants.{Write, Read, Work, Hardware, Condition, Sample, Lasting}
 use Rattle.model.specs.declared.event.Event.{Event}
-use Rattle.laws.specs.Reading.{readCount, givenBy}
+use Rattle.laws.specs.Reading.{givenBy}
 use Rattle.laws.proofs.Unchanged.{laid-front}
 
 module _ (mode : Mode) (s : State) where
@@ -49,6 +49,7 @@ module _ (mode : Mode) (s : State) where
   carried-reads bytes (Hardware l) = refl
   carried-reads bytes (Condition flag mask) = refl
   carried-reads bytes (Sample l p) = refl
+  carried-reads bytes (Lasting flag on off) = refl
 
   module _ (room : ℕ) (e : Event) where
     -- a step that is done reads as many bytes as its event asks for, and one that is refused none

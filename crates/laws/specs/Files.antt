@@ -5,7 +5,9 @@ use mathlib.Core.Bool.{true, false}
 use mathlib.Core.List.{List}
 use mathlib.Core.Logic.{_≢_}
 use Prim.Native.Nat.{ℕ, _+_, _*_, _≤_, _<_}
+use lib.Dec.{ltb}
 use lib.ListN.{length, getD}
+use Rattle.bits.specs.Choice.{pick}
 use Rattle.bits.specs.Word.{word}
 use Rattle.model.specs.Refusals.{isFlat, isBackToFront}
 use Rattle.model.specs.File.{Edition, editionOf, imageOffset, recordsOffset, recordLength, recordCount, imageIn, recordIn, kindOf, writeKind, readKind, workKind, hardwareKind, conditionKind, sampleKind, dataStart, dataLimit}
@@ -22,9 +24,9 @@ pub record NotListed (kind : ℕ) : Type 0 where
   pub condition : kind ≢ conditionKind
   pub sample : kind ≢ sampleKind
 
--- how many bytes of a record a condition uses, in an edition: its kind, a flag byte and its mask
+-- how many bytes of a record a condition uses, in an edition: its kind, a flag byte and a mask, and from the third edition on another mask
 abbrev pub conditionBytes : Edition → ℕ
-conditionBytes e = 3
+conditionBytes e = pick (ltb (e .number) 3) 3 4
 
 -- byte j of a record is one that its kind does not use, in the file's edition: what lies past a write's count of data, or past the eight bytes
 -- that a record carries; past a read's address and count, a lane, what a condition uses, a lane and the two bytes of its sample

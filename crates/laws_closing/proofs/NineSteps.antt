@@ -24,7 +24,7 @@ use Rattle.model.specs.Step.{event, step}
 use Rattle.model.specs.Outcome.{Outcome, stepOutcome}
 use Rattle.model.specs.declared.answer.Answer.the-variants.{Done, WrongLength, FlatMemory, Unsound}
 use Rattle.model.specs.declared.event.Call.{Call}
-use Rattle.model.specs.declared.event.Call.the-variants.{Write, Read, Work, Hardware, Condition, Sample}
+use Rattle.model.specs.declared.event.Call.the-variants.{Write, Read, Work, Hardware, Condition, Sample, Lasting}
 use Rattle.model.specs.declared.lane.Verdict.{Verdict}
 use Rattle.model.specs.declared.lane.Verdict.the-variants.{Pass, Reject}
 use Rattle.model.specs.declared.lane.Progress.{Progress}
@@ -43,7 +43,8 @@ use Rattle.laws_step.proofs.Reading.{read-keeps-records}
 use Rattle.laws_step.proofs.Writing.{write-keeps-record}
 use Rattle.laws_step.proofs.Working.{rejected-closes, copied-lane, passed-closes}
 use Rattle.laws_step.proofs.Moving.{hardware-keeps-records}
-use Rattle.laws_step.proofs.Sensing.{condition-keeps-records, sampled-keeps-records}
+use Rattle.laws_step.proofs.Sensing.{condition-keeps-records}
+use Rattle.laws_step.proofs.Lasting.{lasting-keeps-stages, sampled-keeps-stages}
 use Rattle.laws_closing.specs.Closing.{mostWorkSteps, isWorkOn, worksOn, AllIn, AllIdle, ClosesWithin}
 
 -- the work steps that are left at most: one for a rejection; for a pass one for each lane from its next one on, and the closing one
@@ -83,7 +84,7 @@ module _ (room : ℕ) (s : State) (bytes : List ℕ) (a : firstOf (entryRefusals
   size = accepted-sound s a .1
 
   sound : Sound (seenOf s)
-  sound = test-sound s o
+  sound = test-sound s o .five
 
   own : has (p .group) l ≡ true
   own = sound .grouped l p h i .own
@@ -123,7 +124,8 @@ module _ (room : ℕ) (s : State) (bytes : List ℕ) (a : firstOf (entryRefusals
   done-keeps (Work m) d f = work-keeps m d f
   done-keeps (Hardware m) d f = ap (λ w. stageAt w l) (hardware-keeps-records room s bytes m d)
   done-keeps (Condition flag mask) d f = ap (λ w. stageAt w l) (condition-keeps-records room s bytes flag mask d)
-  done-keeps (Sample m power) d f = ap (λ w. stageAt w l) (sampled-keeps-records room s bytes m power d)
+  done-keeps (Sample m power) d f = sampled-keeps-stages room s bytes m power d l h
+  done-keeps (Lasting flag on off) d f = lasting-keeps-stages room s bytes flag on off d l h
 
   others-keep : (c : Call) → isWorkOn (p .group) c ≡ false → stageAt (stepOn room s c bytes .state .working) l ≡ stageAt (s .working) l
   unfolding isDone
@@ -167,6 +169,7 @@ module _ (room : ℕ) (s : State) (bytes : List ℕ) (a : firstOf (entryRefusals
   works-move (Hardware m) f = absurd (clash f refl)
   works-move (Condition flag mask) f = absurd (clash f refl)
   works-move (Sample m power) f = absurd (clash f refl)
+  works-move (Lasting flag on off) f = absurd (clash f refl)
 
 -- ---- any calls
 

@@ -10,7 +10,7 @@ use Rattle.bits.specs.Sets.{has, laneCount}
 use Rattle.model.specs.Records.{stageAt}
 use Rattle.model.specs.State.{State}
 use Rattle.model.specs.declared.event.Call.{Call}
-use Rattle.model.specs.declared.event.Call.the-variants.{Write, Read, Work, Hardware, Condition, Sample}
+use Rattle.model.specs.declared.event.Call.the-variants.{Write, Read, Work, Hardware, Condition, Sample, Lasting}
 use Rattle.model.specs.declared.lane.Progress.{Progress}
 use Rattle.model.specs.declared.lane.Stage.{Stage}
 use Rattle.model.specs.declared.lane.Stage.the-variants.{Idle, InProgress}
@@ -28,6 +28,7 @@ isWorkOn g (Work l) = both (ltb l laneCount) (has g l)
 isWorkOn g (Hardware l) = false
 isWorkOn g (Condition flag mask) = false
 isWorkOn g (Sample l p) = false
+isWorkOn g (Lasting flag on off) = false
 
 -- how many of the calls are such work steps
 unfoldable pub worksOn : ℕ → List Called → ℕ

@@ -9,14 +9,15 @@ use lib.Seq.{getD-set-other}
 use Rattle.bits.specs.Choice.{onlyIf}
 use Rattle.bits.specs.Sets.{has}
 use Rattle.bits.specs.Word.{putWord}
-use Rattle.bits.proofs.Tests.{clash}
+use borrow.Author.Tests.{le-leb, lt-ltb}
+use Rattle.bits.proofs.Tests.{clash, both-i}
 use Rattle.bits.proofs.Loops.{each-skip}
 use Rattle.bits.proofs.Words.{length-put-word, word-byte-other}
-use Rattle.model.specs.Map.{Image, on, page11, stateAt, statusAt, pendingAt, settingAt, activeSet, flagAt, interruptBit, receivedPower, clearing, statusBytes, pendingByte, stateBytes, setLength, flagBytes}
+use Rattle.model.specs.Map.{Image, on, page11, stateAt, statusAt, pendingAt, settingAt, activeSet, flagAt, interruptBit, receivedPower, clearing, statusBytes, pendingByte, stateBytes, setLength, flagBytes, flagByteCount, lastingCount, lastingFlag}
 use Rattle.model.specs.Registers.{withStatus, withPending, withPathState, withFlags}
 use Rattle.model.specs.Work.{withActive, copyLane}
 use Rattle.model.specs.Hardware.{enteredImage, movedImage, movedPathImage, hardwareImage}
-use Rattle.model.specs.Flags.{raisedImage, sampledImage, settledImage}
+use Rattle.model.specs.Flags.{raisedImage, sampledImage, isRead, shownAgainImage, settledImage}
 use Rattle.model.specs.Pages.{withPage, pageStart, selectedImage}
 use Rattle.model.specs.Access.{clearedImage}
 use Rattle.model.specs.declared.lane.Settings.{Settings}
@@ -111,6 +112,18 @@ cleared-byte x i n j e = each-skip (λ k. clearing (i + k)) _ (λ y. getD y j 0)
 pub cleared-length : (x : Image) (i n : ℕ) → length (clearedImage x i n) ≡ length x
 unfolding clearedImage
 cleared-length x i n = each-skip (λ k. clearing (i + k)) _ length n x (λ k y b t. length-set y (i + k) 0)
+
+-- .. and of them those that it read
+pub cleared-unread : (x : Image) (i n j : ℕ) → isRead i n j ≡ false → getD (clearedImage x i n) j 0 ≡ getD x j 0
+unfolding clearedImage isRead
+cleared-unread x i n j e = each-skip (λ k. clearing (i + k)) _ (λ y. getD y j 0) n x (λ k y b t.
+    getD-set-other y (i + k) j 0 0 (λ q. clash (both-i (le-leb i j (omega arith)) (lt-ltb j (i + n) (omega arith))) e))
+
+-- .. and then shows what is on in flag bytes
+pub shown-outside : (w : Working) (i n : ℕ) (x : Image) → SameOutside flagBytes (flagBytes + flagByteCount) x (shownAgainImage w i n x)
+unfolding shownAgainImage
+shown-outside w i n x = each-outside flagBytes (flagBytes + flagByteCount) _ _ lastingCount x (λ k y b e.
+    outside-wider flagBytes (flagBytes + flagByteCount) (omega arith) (omega arith) (flags-outside (lastingFlag k) _ y))
 
 -- ---- a hardware event: states, DPStateChanged and pending bits
 

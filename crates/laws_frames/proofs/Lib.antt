@@ -5,4 +5,5 @@ pub mod Registers
 pub mod Changes
 pub mod Back
 pub mod Stages
+pub mod Lasting
 pub mod Commands

@@ -1,11 +1,11 @@
--- The lanes' stages after a change of the working state. Assumes nothing.
+-- The lanes' stages, and what is on, after a change of the working state. Assumes nothing.
 use mathlib.Core.Path.{_≡_, ap, _∙_}
 use mathlib.Core.Bool.{true, false}
 use Prim.Native.Nat.{ℕ, _<_}
 use Rattle.bits.specs.Sets.{has}
 use Rattle.bits.proofs.Tests.{pick-true, pick-false}
 use Rattle.bits.proofs.Loops.{tab-at}
-use Rattle.model.specs.Records.{idleRecord, idleWorking, recordAt, stageAt, withStage, withStages, withVerdict, freedWorking, advancedWorking}
+use Rattle.model.specs.Records.{idleRecord, idleWorking, recordAt, stageAt, onAt, withStage, withStages, withOn, withOns, withVerdict, freedWorking, advancedWorking}
 use Rattle.model.specs.declared.lane.Verdict.the-variants.{Pass}
 use Rattle.model.specs.declared.lane.Stage.{Stage}
 use Rattle.model.specs.declared.lane.Stage.the-variants.{Idle}
@@ -14,6 +14,9 @@ use Rattle.model.specs.declared.lane.Working.{Working}
 
 pub idle-stage : (l : ℕ) → l < 8 → stageAt idleWorking l ≡ Idle
 idle-stage l b = ap (λ (r : LaneRecord). r .stage) (tab-at 8 (λ k. idleRecord) l idleRecord b)
+
+pub idle-on : (l : ℕ) → l < 8 → onAt idleWorking l ≡ 0
+idle-on l b = ap (λ (r : LaneRecord). r .on) (tab-at 8 (λ k. idleRecord) l idleRecord b)
 
 module _ (w : Working) where
   pub stage-in : (f : ℕ → Stage) (l : ℕ) → l < 8 → stageAt (withStages w f) l ≡ f l
@@ -35,3 +38,18 @@ module _ (w : Working) where
   pub advanced-out : (g n l : ℕ) → l < 8 → has g l ≡ false → stageAt (advancedWorking w g n) l ≡ stageAt w l
   unfolding advancedWorking
   advanced-out g n l b i = stage-in _ l b ∙ pick-false _ _ i
+
+  -- ---- what is on
+
+  pub on-in : (f : ℕ → ℕ) (l : ℕ) → l < 8 → onAt (withOns w f) l ≡ f l
+  unfolding withOns withOn
+  on-in f l b = ap (λ (r : LaneRecord). r .on) (tab-at 8 (λ k. withOn (recordAt w k) (f k)) l idleRecord b)
+
+  -- .. apart from the stages
+  pub on-kept : (f : ℕ → Stage) (l : ℕ) → l < 8 → onAt (withStages w f) l ≡ onAt w l
+  unfolding withStages withStage
+  on-kept f l b = ap (λ (r : LaneRecord). r .on) (tab-at 8 (λ k. withStage (recordAt w k) (f k)) l idleRecord b)
+
+  pub stage-kept : (f : ℕ → ℕ) (l : ℕ) → l < 8 → stageAt (withOns w f) l ≡ stageAt w l
+  unfolding withOns withOn
+  stage-kept f l b = ap (λ (r : LaneRecord). r .stage) (tab-at 8 (λ k. withOn (recordAt w k) (f k)) l idleRecord b)

@@ -4,11 +4,18 @@ use mathlib.Core.List.{List}
 use mathlib.Core.Logic.{_⊎_, _≢_}
 use Prim.Native.Nat.{ℕ, _+_, _^_, _≤_, _<_}
 use lib.ListN.{length, getD}
+use lib.Dec.{eqb}
+use Rattle.bits.specs.Choice.{pick}
 use Rattle.bits.specs.Sets.{Lane}
-use Rattle.model.specs.Numbers.{Byte, Index}
-use Rattle.model.specs.Map.{Image, imageLength, moduleFlags, commandStatus, replyLength, page10, stateBytes, statusBytes, pendingByte, flagBytes, settingCount, settingWidths}
+use Rattle.model.specs.Numbers.{Byte, Index, OnBits}
+use Rattle.model.specs.Map.{Image, imageLength, lastingIndex, moduleFlags, commandStatus, replyLength, page10, stateBytes, statusBytes, pendingByte, flagBytes, settingCount, settingWidths}
+use Rattle.model.specs.Records.{onAt}
+use Rattle.model.specs.State.{State}
+use Rattle.model.specs.Flags.{conditionOn, sampledOn}
 use Rattle.model.specs.View.{settingValues}
 use Rattle.model.specs.declared.lane.Settings.{Settings}
+use Rattle.model.specs.declared.event.Call.{Call}
+use Rattle.model.specs.declared.event.Call.the-variants.{Write, Read, Work, Hardware, Condition, Sample, Lasting}
 
 -- ---- ranges of bytes
 
@@ -66,3 +73,15 @@ Fits h = (k : ℕ) → k < settingCount → getD (settingValues h) k 0 < 2 ^ get
 -- lane m is another than lane l
 abbrev pub OtherLane : Lane → Lane → Type 0
 OtherLane l m = m ≢ l
+
+-- ---- what is on
+
+-- what is on for a lane after an event that is carried out: a sample of the lane and a lasting condition have their say, and every other event leaves it
+unfoldable pub onAfter : State → Call → Lane → OnBits
+onAfter s (Write address count) l = onAt (s .working) l
+onAfter s (Read address count) l = onAt (s .working) l
+onAfter s (Work m) l = onAt (s .working) l
+onAfter s (Hardware m) l = onAt (s .working) l
+onAfter s (Condition flag mask) l = onAt (s .working) l
+onAfter s (Sample m p) l = pick (eqb m l) (sampledOn (s .image) p (onAt (s .working) l)) (onAt (s .working) l)
+onAfter s (Lasting flag on off) l = conditionOn (lastingIndex flag) on off l (onAt (s .working) l)

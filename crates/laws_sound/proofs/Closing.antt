@@ -21,7 +21,7 @@ use Rattle.model.specs.declared.lane.Stage.{Stage}
 use Rattle.model.specs.declared.lane.Stage.the-variants.{Idle, InProgress}
 use Rattle.laws_sound.specs.Sound.{Seen, held, stateOn, Mate, InWhole, Passes, Sound}
 use Rattle.laws_sound.proofs.Paths.{Together, same-together, together-same, used-app, fills-first, fills-ext, written-app, written-id, written-used}
-use Rattle.laws_sound.proofs.Test.{one-fewer}
+use Rattle.laws_sound.proofs.Test.{one-fewer, one-ext}
 use Rattle.laws_sound.proofs.Stranger.{not-idle, is-rejected, Pass-of, passing-of, own, groups-apart, now-fills, home-free}
 
 -- ---- nothing that soundness looks at changes: statuses and pending bits below 8 read the same
@@ -34,6 +34,25 @@ quiet-sound o cs pd ec ep S = record {
   unused = λ l b f u. let R = S .unused l b f u in record { state = R .state; pending = ep l b ∙ R .pending };
   passes = λ l n p b e q. let P = S .passes l n p b e q in
       record { purpose = P .purpose; agree = P .agree; rests = P .rests; release = P .release; copied = P .copied; remain = P .remain };
+}
+
+-- .. and so do the stages
+pub restaged-sound : (o : Seen) (st : ℕ → Stage) → ((l : ℕ) → l < 8 → st l ≡ o .stage l) → Sound o
+    → Sound (record { stage = st; active = o .active; states = o .states; applications = o .applications; status = o .status; pending = o .pending })
+restaged-sound o st e S = record {
+  told = λ l b. rw (e l b) (S .told l b);
+  grouped = λ l p b q. let G = S .grouped l p b (sym (e l b) ∙ q) in
+      record { own = G .own; mate = λ m c i. rw (e m c) (G .mate m c i); fits = G .fits; code = G .code; next = G .next };
+  used = λ l b f u. let W = S .used l b (rw (e l b) at f) u in record { alike = W .alike; whole = W .whole; agree = W .agree; low = W .low; high = W .high };
+  unused = λ l b f u. let R = S .unused l b (rw (e l b) at f) u in record { state = R .state; pending = R .pending };
+  passes = λ l n p b q v. let P = S .passes l n p b (sym (e l b) ∙ q) v in record {
+    purpose = one-ext _ (held o) (λ m. heldIn (st m)) _ _ (λ m c. ap heldIn (sym (e m c))) (P .purpose);
+    agree = P .agree;
+    rests = P .rests;
+    release = λ m c i u. P .release m c i (rw (e m c) at u);
+    copied = λ m c i h. P .copied m c i h ∙ ap (λ t. writtenSettings (heldIn t)) (sym (e m c));
+    remain = P .remain;
+  };
 }
 
 -- ---- lanes of a group go idle

@@ -11,6 +11,7 @@ pub mod Quiet
 pub mod WorkSteps
 pub mod PathEvents
 pub mod Steps
+pub mod Lasting
 pub mod Starting
 pub mod Reached
 pub mod Once

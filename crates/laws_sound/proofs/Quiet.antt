@@ -10,9 +10,10 @@ use lib.ListN.{length, getD, set}
 use Rattle.bits.specs.Choice.{both, either}
 use Rattle.bits.specs.Place.{get}
 use Rattle.bits.proofs.Tests.{split, clash, either-cases}
-use Rattle.model.specs.Map.{Image, Range, range, rangeOn, on, page11, inRanges, writableRanges, writable, clearedRanges, clearing, activeSet, statusAt, pendingAt, imageLength, stateBytes, statusBytes, page10, page9F, flagBytes, moduleFlags, commandStatus, replyLength}
+use Rattle.model.specs.Map.{Image, Range, range, rangeOn, on, page11, inRanges, writableRanges, writable, clearedRanges, clearing, activeSet, statusAt, pendingAt, imageLength, stateBytes, statusBytes, page10, page9F, flagBytes, flagByteCount, moduleFlags, commandStatus, replyLength}
+use Rattle.model.specs.Records.{stageAt}
 use Rattle.model.specs.State.{State}
-use Rattle.model.specs.Flags.{isConditionFlag, conditionImage, sampledImage, settledImage}
+use Rattle.model.specs.Flags.{isConditionFlag, conditionImage, sampledImage, shownAgainImage, settledImage}
 use Rattle.model.specs.Pages.{selectedImage}
 use Rattle.model.specs.Access.{clearedImage}
 use Rattle.model.specs.Commands.{commandImage}
@@ -20,11 +21,11 @@ use Rattle.model.specs.declared.lane.Working.{Working}
 use Rattle.laws_frames.proofs.Ranges.{between, apartFrom, not-in, coveredBy, covered-in, allCovered, ranges-in}
 use Rattle.laws_frames.proofs.Outside.{set-outside}
 use Rattle.laws_frames.proofs.Registers.{settings-same, states-same, applications-same, status-same, pending-same}
-use Rattle.laws_frames.proofs.Changes.{settled-outside, sampled-outside, flags-outside, selected-outside, cleared-byte, cleared-length}
+use Rattle.laws_frames.proofs.Changes.{settled-outside, sampled-outside, flags-outside, selected-outside, cleared-byte, cleared-length, shown-outside}
 use Rattle.laws_frames.proofs.Commands.{command-off}
 use Rattle.laws_sound.specs.Sound.{seenOf, Sound}
 use Rattle.laws_frames.specs.Frames.{Beside, SameOutside, SameOffCommand, stateEnd, pendingEnd, Advertised}
-use Rattle.laws_sound.proofs.Closing.{quiet-sound}
+use Rattle.laws_sound.proofs.Closing.{quiet-sound, restaged-sound}
 
 -- what holds of every state reached: the length of its image, lower byte 2 as it was, sound
 pub record Well (two : ℕ) (s : State) : Type 0 where
@@ -76,6 +77,15 @@ quiet-well two x y w Q W = record {
       (quiet-sound (seenOf (record { image = x; working = w })) (λ l. get y (statusAt l)) (λ l. get y (pendingAt l))
       (λ l b. status-same x y l b (λ i a b. Q .byte i (lane-kept i a (omega arith))))
       (λ l b. pending-same x y l b (λ i a b. Q .byte i (lane-kept i (omega arith) b))) (W .sound));
+}
+
+-- the records change, and their stages do not
+pub restaged-well : (two : ℕ) (x : Image) (w v : Working) → ((l : ℕ) → l < 8 → stageAt v l ≡ stageAt w l)
+    → Well two (record { image = x; working = w }) → Well two (record { image = x; working = v })
+restaged-well two x w v e W = record {
+  size = W .size;
+  low = W .low;
+  sound = restaged-sound (seenOf (record { image = x; working = w })) (stageAt v) e (W .sound);
 }
 
 -- ---- changes of free bytes
@@ -140,6 +150,11 @@ cleared-quiet x i n = record {
   size = cleared-length x i n;
   byte = λ j f. cleared-byte x i n j (split (clearing j) (λ t. absurd (f (clearing-free j t))) (λ t. t));
 }
+
+pub shown-quiet : (w : Working) (i n : ℕ) (x : Image) → Quiet x (shownAgainImage w i n x)
+unfolding coveredBy both either
+shown-quiet w i n x = quiet-of flagBytes (flagBytes + flagByteCount)
+    (λ j a b. covered-in freeRanges (rangeOn page11 134 153) j refl (omega arith) (omega arith)) (shown-outside w i n x)
 
 -- a command changes free bytes alone
 pub command-quiet : (x : Image) → Quiet x (commandImage x)

@@ -8,9 +8,9 @@ use native.Mathlib.Omega.{arith}
 use lib.Dec.{eqb}
 use lib.ListN.{take}
 use borrow.Author.Tests.{ltb-true, not-false}
-use Rattle.bits.specs.Choice.{pick, onlyIf}
+use Rattle.bits.specs.Choice.{onlyIf}
 use Rattle.bits.specs.Place.{get}
-use Rattle.bits.proofs.Tests.{split, clash, either-l, pick-true, pick-false}
+use Rattle.bits.proofs.Tests.{split, clash, either-l, pick-true, pick-false, pick-has}
 use Rattle.model.specs.Map.{Image, pageSelect, applyDPInit, applyImmediate, stagedSet0, writable, activeSet, statusAt, pendingAt, setLength, stateBytes, pendingByte, statusBytes}
 use Rattle.model.specs.Statuses.{inProgress}
 use Rattle.model.specs.Answers.{isDone}
@@ -20,6 +20,7 @@ use Rattle.model.specs.State.{State, stateWith}
 use Rattle.model.specs.Registers.{withStatus}
 use Rattle.model.specs.Triggers.{isMarked, stageAfter, markedState, isIgnored, triggeredState}
 use Rattle.model.specs.Work.{early}
+use Rattle.model.specs.Flags.{lastingState, sampledState}
 use Rattle.model.specs.Commands.{commandImage}
 use Rattle.model.specs.Access.{storedState, byteWrittenState, bytesWrittenState, endedState}
 use Rattle.model.specs.Refusals.{Refusal, firstOf, noSuchLane, isBusy, isUnused, eventRefusals}
@@ -27,27 +28,21 @@ use Rattle.model.specs.Step.{readEffect, eventEffect, doneStep, refusedStep, an
 use Rattle.model.specs.declared.lane.Trigger.{Trigger}
 use Rattle.model.specs.declared.lane.Trigger.the-variants.{DpInit, Immediate}
 use Rattle.model.specs.declared.event.Call.{Call}
-use Rattle.model.specs.declared.event.Call.the-variants.{Write, Read, Work, Hardware, Condition, Sample}
+use Rattle.model.specs.declared.event.Call.the-variants.{Write, Read, Work, Hardware, Condition, Sample, Lasting}
 use Rattle.model.specs.declared.event.Event.{Event}
 use Rattle.model.specs.declared.lane.Working.{Working}
 use Rattle.laws_frames.proofs.Outside.{below-range, above-range}
 use Rattle.laws_frames.proofs.Registers.{settings-same, states-same, advertised-below, applications-same, pending-same}
 use Rattle.laws_frames.proofs.Changes.{status-outside}
 use Rattle.laws_frames.proofs.Back.{status-in, status-out, read-fits}
-use Rattle.laws_frames.proofs.Stages.{stage-in}
+use Rattle.laws_frames.proofs.Stages.{stage-in, stage-kept}
 use Rattle.laws_sound.specs.Sound.{Seen, seenOf}
 use Rattle.laws_frames.specs.Frames.{SameOutside, stateEnd, statusEnd, pendingEnd}
 use Rattle.laws_sound.proofs.Closing.{quiet-sound}
 use Rattle.laws_sound.proofs.Marking.{marking}
-use Rattle.laws_sound.proofs.Quiet.{Well, quiet-well, set-quiet, selected-quiet, settled-quiet, sampled-quiet, condition-quiet, cleared-quiet, command-quiet}
+use Rattle.laws_sound.proofs.Quiet.{Well, quiet-well, set-quiet, selected-quiet, settled-quiet, sampled-quiet, condition-quiet, cleared-quiet, shown-quiet, command-quiet, restaged-well}
 use Rattle.laws_sound.proofs.WorkSteps.{settings-lane, work-well}
 use Rattle.laws_sound.proofs.PathEvents.{hardware-well}
-
--- a choice between two states that are well
-pick-well : (two : ℕ) (c : Bool) (s t : State) → (c ≡ true → Well two s) → (c ≡ false → Well two t) → Well two (pick c s t)
-unfolding pick
-pick-well two true s t f h = f refl
-pick-well two false s t f h = h refl
 
 -- ---- triggers
 
@@ -95,17 +90,17 @@ marked-well two t base s sel W = record {
 
 triggered-well : (two : ℕ) (t : Trigger) (base : ℕ) (s : State) (sel : ℕ) → Well two s → Well two (triggeredState t base s sel)
 unfolding triggeredState
-triggered-well two t base s sel W = pick-well two (isIgnored t (s .image)) _ _ (λ e. W) (λ e. marked-well two t base s sel W)
+triggered-well two t base s sel W = pick-has (Well two) (isIgnored t (s .image)) (λ e. W) (λ e. marked-well two t base s sel W)
 
 -- ---- written bytes
 
 pub stored-well : (two i v : ℕ) (s : State) → Well two s → Well two (storedState i v s)
 unfolding storedState
 stored-well two i v s W =
-    pick-well two (eqb i pageSelect) _ _ (λ e. quiet-well two (s .image) _ (s .working) (selected-quiet v (s .image)) W)
-    (λ e. pick-well two (eqb i applyDPInit) _ _ (λ e. triggered-well two DpInit stagedSet0 s v W)
-    (λ e. pick-well two (eqb i applyImmediate) _ _ (λ e. triggered-well two Immediate stagedSet0 s v W)
-    (λ e. pick-well two (writable i) _ _ (λ e. quiet-well two (s .image) _ (s .working) (set-quiet (s .image) i v e) W) (λ e. W))))
+    pick-has (Well two) (eqb i pageSelect) (λ e. quiet-well two (s .image) _ (s .working) (selected-quiet v (s .image)) W)
+    (λ e. pick-has (Well two) (eqb i applyDPInit) (λ e. triggered-well two DpInit stagedSet0 s v W)
+    (λ e. pick-has (Well two) (eqb i applyImmediate) (λ e. triggered-well two Immediate stagedSet0 s v W)
+    (λ e. pick-has (Well two) (writable i) (λ e. quiet-well two (s .image) _ (s .working) (set-quiet (s .image) i v e) W) (λ e. W))))
 
 bytes-well : (two address : ℕ) (vs : List ℕ) (s : State) → Well two s → Well two (bytesWrittenState address vs s)
 unfolding bytesWrittenState byteWrittenState
@@ -132,7 +127,7 @@ not-refused r rs n e = split (r .when)
     (λ w. absurd (clash (rw (pick-true _ _ w) at e) n))
     (λ w. (w, rw (pick-false _ _ w) at e))
 
-a-lane : (l : ℕ) → noSuchLane l ≡ false → l < 8
+pub a-lane : (l : ℕ) → noSuchLane l ≡ false → l < 8
 unfolding noSuchLane
 a-lane l e = ltb-true l 8 (not-false _ e)
 
@@ -146,9 +141,10 @@ not-unused s l e = not-false _ e
 
 carried-well : (two room : ℕ) (s : State) (bytes : List ℕ) (call : Call) → Well two s → isDone (firstOf (eventRefusals room s call)) ≡ true
     → Well two (eventEffect early s bytes call .state)
-unfolding eventEffect readEffect eventRefusals isDone
+unfolding eventEffect readEffect sampledState lastingState eventRefusals isDone
 carried-well two room s bytes (Write address count) W e = ended-well two address count _ (bytes-well two address (take count bytes) s W)
-carried-well two room s bytes (Read address count) W e = quiet-well two (s .image) _ (s .working) (cleared-quiet (s .image) _ count) W
+carried-well two room s bytes (Read address count) W e =
+    quiet-well two _ _ (s .working) (shown-quiet (s .working) _ count _) (quiet-well two (s .image) _ (s .working) (cleared-quiet (s .image) _ count) W)
 carried-well two room s bytes (Work l) W e = work-well two s l W (a-lane l (not-refused _ _ refl e .0))
 carried-well two room s bytes (Hardware l) W e =
     let r₁ = not-refused _ _ refl e in
@@ -158,7 +154,11 @@ carried-well two room s bytes (Hardware l) W e =
 carried-well two room s bytes (Condition flag mask) W e =
     quiet-well two (s .image) _ (s .working) (condition-quiet flag mask (s .image) (not-false _ (not-refused _ _ refl e .0))) W
 carried-well two room s bytes (Sample l p) W e =
-    quiet-well two (s .image) _ (s .working) (sampled-quiet l p (s .image) (a-lane l (not-refused _ _ refl e .0))) W
+    restaged-well two _ (s .working) _ (stage-kept (s .working) _)
+    (quiet-well two (s .image) _ (s .working) (sampled-quiet l p (s .image) (a-lane l (not-refused _ _ refl e .0))) W)
+carried-well two room s bytes (Lasting flag on off) W e =
+    restaged-well two _ (s .working) _ (stage-kept (s .working) _)
+    (quiet-well two (s .image) _ (s .working) (condition-quiet flag on (s .image) (not-false _ (not-refused _ _ refl e .0))) W)
 
 -- ---- every event, refused or done
 

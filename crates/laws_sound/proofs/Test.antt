@@ -13,12 +13,12 @@ use Rattle.bits.specs.Sets.{has, nextIn, firstIn, someIn, everyIn}
 use Rattle.bits.proofs.Tests.{split, clash, both-l, both-r, both-i, either-cases, either-i-l, either-i-r, implies-use, implies-i}
 use Rattle.bits.proofs.Loops.{all-at, all-intro, any-find, any-none, none-any, tab-at}
 use Rattle.bits.proofs.Masks.{has-mask, first-in, next-le}
-use Rattle.model.specs.Map.{Image, activeSet, stagedSet0}
+use Rattle.model.specs.Map.{Image, activeSet, stagedSet0, lastingCount}
 use Rattle.model.specs.Records.{stageAt, isPassing, heldIn, noSettings}
 use Rattle.model.specs.View.{View, viewOf, settingsOf, applicationsOf, of, applicationIn, appSel, pathId, isUsed, samePath, pathOf, fills, settingValues}
 use Rattle.model.specs.State.{State}
 use Rattle.model.specs.Work.{isRelease}
-use Rattle.model.specs.Sound.{statusTells, sameTrigger, sameVerdict, agrees, settingsFit, verdictFits, stageFits, share, makePath, agreeOnState, inWholePath, isAtRest, outsidePassing, heldSettingsOf, hasPurpose, rests, sameSettings, holdsCopied, notCopied, restIsWhole, passingFits, groupFits, laneSound, isSound}
+use Rattle.model.specs.Sound.{statusTells, sameTrigger, sameVerdict, agrees, settingsFit, verdictFits, stageFits, share, makePath, agreeOnState, inWholePath, isAtRest, outsidePassing, heldSettingsOf, hasPurpose, rests, sameSettings, holdsCopied, notCopied, restIsWhole, passingFits, groupFits, laneSound, onFits, isSound}
 use Rattle.model.specs.declared.lane.Settings.{Settings}
 use Rattle.model.specs.declared.lane.Trigger.{Trigger}
 use Rattle.model.specs.declared.lane.Trigger.the-variants.{DpInit, Immediate}
@@ -31,7 +31,7 @@ use Rattle.model.specs.declared.lane.Working.{Working}
 use Rattle.model.specs.declared.application.Lookup.{Lookup}
 use Rattle.laws_frames.proofs.Registers.{settings-path}
 use Rattle.laws_sound.proofs.Paths.{same-together, used-app}
-use Rattle.laws_sound.specs.Sound.{Seen, seenOf, held, stateOn, Mate, Grouped, InWhole, AtRest, OnePath, Passes, Sound}
+use Rattle.laws_sound.specs.Sound.{Seen, seenOf, held, stateOn, Mate, Grouped, InWhole, AtRest, OnePath, Passes, Sound, AllOnFit, AllSix}
 
 -- ---- small tests
 
@@ -269,9 +269,9 @@ module _ (x : Image) (w : Working) (l : ℕ) (b : l < 8) where
         to-first : (m : ℕ) → m < 8 → has g m ≡ true → stateOn o m ≡ stateOn o (firstIn g)
         to-first m bm im = eqb-true _ _ (every-at g _ (both-l _ _ rs) m bm im)
 
-pub test-sound : (s : State) → isSound s ≡ true → Sound (seenOf s)
+five-e : (s : State) → isSound s ≡ true → Sound (seenOf s)
 unfolding isSound laneSound statusTells outsidePassing groupFits viewOf
-test-sound s t = record {
+five-e s t = record {
   told = λ l b. same-eq _ _ (both-l _ _ (both-l _ _ (at l b)));
   grouped = λ l p b e. grouped-e x w l b p (fit l p b e);
   used = λ l b f u. whole-e x w l b (implies-use _ _ (both-l _ _ (outside l b f)) u);
@@ -286,7 +286,7 @@ test-sound s t = record {
     w = s .working
 
     at : (l : ℕ) → l < 8 → laneSound x (viewOf stagedSet0 x) w l ≡ true
-    at l b = all-at 8 _ t l b
+    at l b = both-l _ _ (all-at 8 _ t l b)
 
     outside : (l : ℕ) → l < 8 → isPassing (stageAt w l) ≡ false → outsidePassing x (viewOf stagedSet0 x) w l ≡ true
     outside l b f = implies-use _ _ (both-l _ _ (both-r _ _ (at l b))) (rw f)
@@ -402,6 +402,28 @@ module _ (s : State) (S : Sound (seenOf s)) (l : ℕ) (b : l < 8) where
   lane-i = both-i (both-i (eq-same _ _ (S .told l b)) (stage-i (stageAt (s .working) l) refl))
       (both-i (implies-i _ _ (λ f. outside-i (not-true _ f))) (group-i (stageAt (s .working) l) refl))
 
-pub sound-test : (s : State) → Sound (seenOf s) → isSound s ≡ true
+-- ---- (f)
+
+on-e : (s : State) → isSound s ≡ true → AllOnFit s
+unfolding isSound onFits
+on-e s t l b = record {
+  few = ltb-true _ _ (both-l _ _ at);
+  shows = λ k h e. eqb-true _ _ (implies-use _ _ (all-at lastingCount _ (both-r _ _ at) k h) e);
+}
+  where
+    at : onFits (s .image) (s .working) l ≡ true
+    at = both-r _ _ (all-at 8 _ t l b)
+
+on-i : (s : State) → AllOnFit s → (l : ℕ) → l < 8 → onFits (s .image) (s .working) l ≡ true
+unfolding onFits
+on-i s O l b = both-i (lt-ltb _ _ (O l b .few))
+    (all-intro lastingCount _ (λ k h. implies-i _ _ (λ e. eq-eqb _ _ (O l b .shows k h e))))
+
+-- ---- all six
+
+pub test-sound : (s : State) → isSound s ≡ true → AllSix s
+test-sound s t = record { five = five-e s t; on = on-e s t }
+
+pub sound-test : (s : State) → AllSix s → isSound s ≡ true
 unfolding isSound
-sound-test s S = all-intro 8 _ (λ l b. lane-i s S l b)
+sound-test s S = all-intro 8 _ (λ l b. both-i (lane-i s (S .five) l b) (on-i s (S .on) l b))

@@ -1,15 +1,15 @@
--- Soundness in propositions: (a) to (e) of document 01, over what they look at and no more.
+-- Soundness in propositions: (a) to (e) of document 01, over what they look at and no more; and (f), what is on (02 Req 02).
 use mathlib.Core.Path.{_≡_}
 use mathlib.Core.Bool.{Bool, true, false}
 use mathlib.Core.List.{List}
-use Prim.Native.Nat.{ℕ, _≤_, _<_}
+use Prim.Native.Nat.{ℕ, _^_, _≤_, _<_}
 use lib.Dec.{eqb}
 use Rattle.bits.specs.Place.{get}
 use Rattle.bits.specs.Sets.{has}
-use Rattle.model.specs.Map.{activeSet, statusAt, pendingAt}
+use Rattle.model.specs.Map.{Image, activeSet, statusAt, pendingAt, flagAt, lastingCount, lastingFlag}
 use Rattle.model.specs.Statuses.{inProgress}
 use Rattle.model.specs.PathStates.{stateOf, resting}
-use Rattle.model.specs.Records.{stageAt, isInProgress, isPassing, heldIn}
+use Rattle.model.specs.Records.{stageAt, onAt, isInProgress, isPassing, heldIn}
 use Rattle.model.specs.View.{settingsOf, statesOf, applicationsOf, of, stateIn, applicationIn, appSel, pathId, isUsed, samePath, pathOf, fills}
 use Rattle.model.specs.State.{State}
 use Rattle.model.specs.Verdicts.{deactivated}
@@ -99,7 +99,7 @@ pub record Passes (o : Seen) (g n : ℕ) : Type 0 where
   pub copied : (m : ℕ) → m < 8 → has g m ≡ true → m < n → of (o .active) m ≡ writtenSettings (held o m)
   pub remain : OnePath (o .applications) (of (o .active)) (notCopied g n) g
 
--- ---- these five, no more
+-- ---- these five
 
 pub record Sound (o : Seen) : Type 0 where
   pub told : (l : ℕ) → l < 8 → eqb (o .status l) inProgress ≡ isInProgress (o .stage l)
@@ -107,3 +107,19 @@ pub record Sound (o : Seen) : Type 0 where
   pub used : (l : ℕ) → l < 8 → isPassing (o .stage l) ≡ false → isUsed (of (o .active) l) ≡ true → InWhole o l
   pub unused : (l : ℕ) → l < 8 → isPassing (o .stage l) ≡ false → isUsed (of (o .active) l) ≡ false → AtRest o l
   pub passes : (l n : ℕ) (p : Progress) → l < 8 → o .stage l ≡ InProgress p → p .verdict ≡ Pass n → Passes o (p .group) n
+
+-- ---- (f) a lane's on bits name only flags that can last, and a flag that is on is 1
+
+pub record OnFits (x : Image) (l bits : ℕ) : Type 0 where
+  pub few : bits < 2 ^ lastingCount
+  pub shows : (k : ℕ) → k < lastingCount → has bits k ≡ true → get x (flagAt (lastingFlag k) l) ≡ 1
+
+-- .. of every lane
+abbrev pub AllOnFit : State → Type 0
+AllOnFit s = (l : ℕ) → l < 8 → OnFits (s .image) l (onAt (s .working) l)
+
+-- ---- these six, no more
+
+pub record AllSix (s : State) : Type 0 where
+  pub five : Sound (seenOf s)
+  pub on : AllOnFit s

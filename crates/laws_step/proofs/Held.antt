@@ -27,7 +27,7 @@ use Rattle.model.specs.declared.lane.Working.{Working}
 
 stage-fits : (s : State) (l : ℕ) → isSound s ≡ true → l < 8 → stageFits (s .working) l (stageAt (s .working) l) ≡ true
 unfolding isSound laneSound
-stage-fits s l o h = both-r _ _ (both-l _ _ (all-at 8 _ o l h))
+stage-fits s l o h = both-r _ _ (both-l _ _ (both-l _ _ (all-at 8 _ o l h)))
 
 -- a rejection's code is 2 to 7
 pub code-fits : (s : State) (l : ℕ) (p : Progress) (code : ℕ) → isSound s ≡ true → l < 8 → stageAt (s .working) l ≡ InProgress p → p .verdict ≡ Reject code

@@ -27,7 +27,7 @@ use Rattle.model.specs.declared.answer.Answer.the-variants.{Done}
 use Rattle.model.specs.declared.command.CommandStatus.{CommandStatus}
 use Rattle.model.specs.declared.command.CommandStatus.the-variants.{Success, UnknownNumber, WrongCode}
 use Rattle.model.specs.declared.event.Call.{Call}
-use Rattle.model.specs.declared.event.Call.the-variants.{Write, Read, Work, Hardware, Condition, Sample}
+use Rattle.model.specs.declared.event.Call.the-variants.{Write, Read, Work, Hardware, Condition, Sample, Lasting}
 use Rattle.model.specs.declared.event.Event.{Event}
 use Rattle.model.specs.declared.lane.Verdict.{Verdict}
 use Rattle.model.specs.declared.lane.Verdict.the-variants.{Pass, Reject}
@@ -48,7 +48,7 @@ use Rattle.laws_step.proofs.Reading.{read-changes}
 use Rattle.laws_step.proofs.Writing.{write-changes, runs-stored}
 use Rattle.laws_step.proofs.Working.{rejected-changes, copied-changes, passed-changes}
 use Rattle.laws_step.proofs.Moving.{hardware-changes}
-use Rattle.laws_step.proofs.Sensing.{is-listed, is-lane, condition-changes, sampled-changes}
+use Rattle.laws_step.proofs.Sensing.{is-listed, is-lane, condition-changes, lasting-listed, lasting-changes, sampled-changes}
 
 -- ---- what each event may change, commands aside
 
@@ -246,6 +246,9 @@ module _ (room : ℕ) (s : State) (bytes : List ℕ) where
       let k = condition-in flag (is-listed room s bytes flag mask d) in
       kept-settled _ _ _ (within-flag flag _ (omega arith) (omega arith)) (condition-changes room s bytes flag mask d)
   call-kept (Sample l p) d = kept-settled _ _ _ (within-sample l (is-lane room s bytes l p d)) (sampled-changes room s bytes l p d)
+  call-kept (Lasting flag on off) d =
+      let k = condition-in flag (lasting-listed room s bytes flag on off d) in
+      kept-settled _ _ _ (within-flag flag _ (omega arith) (omega arith)) (lasting-changes room s bytes flag on off d)
 
 module _ (room : ℕ) (s : State) (e : Event) where
   -- by every event, done or refused

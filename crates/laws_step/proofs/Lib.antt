@@ -4,8 +4,6 @@ pub mod Within
 pub mod Settling
 pub mod Stepped
 pub mod Places
-pub mod Records
-pub mod Reading
 pub mod Triggering
 pub mod Commission
 pub mod Held
@@ -16,8 +14,10 @@ pub mod Commanding
 pub mod Writing
 pub mod Paging
 pub mod Moving
+pub mod Reading
 pub mod Muting
 pub mod Sensing
+pub mod Lasting
 pub mod Keeping
 pub mod Calling
 pub mod Running

@@ -21,6 +21,7 @@ use Rattle.model.specs.declared.answer.Answer.the-variants.{Done}
 use Rattle.model.specs.declared.event.Call.the-variants.{Hardware}
 use Rattle.model.specs.declared.path.PathState.{PathState}
 use Rattle.model.specs.declared.path.PathState.the-variants.{Reserved, Deactivated, Init, Deinit, Activated, TxTurnOn, TxTurnOff, Initialized}
+use Rattle.laws_frames.proofs.Back.{flag-in}
 use Rattle.laws_step.specs.Changes.{ChangesOnly, orIn, interruptSet, stateSet, flagSet, pendingSet}
 use Rattle.laws_step.specs.Told.{stepOn, pathSet, PathMoved}
 use Rattle.laws_step.proofs.Frames.{unless, keeps-then, keeps-left, keeps-right, keeps-only, keeps-lanes, keeps-lane, lanes-written, lanes-bytes}
@@ -35,11 +36,6 @@ flag-changes address g x = keeps-lanes (has g) (on page11 address) 1 (λ l. 1) x
 state-changes : (g : ℕ) (to : PathState) (x : Image) → ChangesOnly (stateSet (has g)) x (withPathState g to x)
 unfolding withPathState stateSet
 state-changes g to x = keeps-lanes (has g) (on page11 128) 4 (λ l. codeOf to) x
-
-pub flags-written : (address g : ℕ) (x : Image) (m : ℕ) → on page11 address < length x → m < 8 → has g m ≡ true
-    → get (withFlags address g x) (flagAt address m) ≡ 1
-unfolding withFlags
-flags-written address g x m size h e = lanes-written (has g) (on page11 address) 1 1 x m (omega arith) refl (omega arith) h e
 
 -- every state has a code of four bits
 code-small : (to : PathState) → codeOf to < 16
@@ -105,7 +101,7 @@ module _ (g : ℕ) (from to : PathState) (x : Image) where
     unfolding enteredImage cleared inState
     flag-entered = split (resting to)
         (λ t. rw (only-true (withFlags stateChangedFlag g) cleared t)
-        (flags-written stateChangedFlag g cleared m (omega (arith, size-cleared)) h e) ∙ sym (pick-true _ _ t))
+        (flag-in cleared stateChangedFlag g m (omega (arith, size-cleared)) h e) ∙ sym (pick-true _ _ t))
         (λ t. rw (only-false (withFlags stateChangedFlag g) cleared t)
         (keeps-lane clears (on page11 134) 1 m h refl (λ i b p q. pending-only _ i b (omega arith))
         ∙ keeps-lane (state-changes g to x) (on page11 134) 1 m h refl (λ i b p q. states-only _ i b (omega arith))) ∙ sym (pick-false _ _ t))

@@ -1,8 +1,8 @@
--- A condition sets the flag bits of its mask; a sample stores its power and sets the flags of the limits that it passes. Neither changes anything else
--- but lower 3.0. Assumes nothing.
+-- A condition, once or lasting, sets the flag bits of its mask; a sample stores its power and sets the flags of the limits that it passes. Neither changes
+-- anything else of the image but lower 3.0. Assumes nothing.
 use mathlib.Core.Path.{_≡_, refl, sym, ap, _∙_}
-use mathlib.Core.Bool.{Bool, true, false}
-use mathlib.Core.List.{List, []}
+use mathlib.Core.Bool.{Bool, true, false, not}
+use mathlib.Core.List.{List, [], _∷_}
 use mathlib.Core.Logic.{_⊎_, inl, inr, _≢_}
 use Prim.Native.Nat.{ℕ, _+_, _*_, _%_, _^_, _≤_, _<_}
 use native.Mathlib.Nat.{mod-eq-of-lt}
@@ -22,41 +22,75 @@ use Rattle.bits.proofs.Places.{get-put}
 use Rattle.bits.proofs.Lanes.{lane-in, lane-width}
 use Rattle.model.specs.Map.{Image, flagAt, receivedPower, highAlarmLimit, lowAlarmLimit, highWarningLimit, highAlarmFlag, lowAlarmFlag, highWarningFlag, lowWarningFlag, page11, on, imageLength}
 use Rattle.model.specs.State.{State}
-use Rattle.model.specs.Flags.{isConditionFlag, conditionImage, power, raisedImage, sampledImage, settledImage}
-use Rattle.model.specs.Refusals.{noSuchLane, eventRefusals}
+use Rattle.model.specs.Work.{early}
+use Rattle.model.specs.Flags.{isConditionFlag, conditionImage, lastingState, power, raisedImage, sampledImage, sampledState, settledImage}
+use Rattle.model.specs.Refusals.{refuse, noSuchLane, eventRefusals}
 use Rattle.model.specs.Answers.{isDone}
 use Rattle.model.specs.Step.{event, eventEffect, doneStep}
 use Rattle.model.specs.declared.answer.Answer.the-variants.{Done, NoSuchTarget}
-use Rattle.model.specs.declared.event.Call.the-variants.{Condition, Sample}
+use Rattle.model.specs.declared.event.Call.{Call}
+use Rattle.model.specs.declared.event.Call.the-variants.{Condition, Sample, Lasting}
+use Rattle.laws_frames.proofs.Back.{flag-in}
 use Rattle.laws_step.specs.Changes.{ChangesOnly, orIn, inBytes, interruptSet, flagSet}
 use Rattle.laws_step.specs.Told.{stepOn, amid, sampleSet, PowerTold}
 use Rattle.laws_step.proofs.Places.{condition-in}
 use Rattle.laws_step.proofs.Frames.{unless, in-lanes, keeps-put, keeps-then, keeps-left, keeps-right, keeps-only, keeps-byte, keeps-lane, lanes-bytes}
 use Rattle.laws_step.proofs.Settling.{settled-lane, settled-byte}
 use Rattle.laws_step.proofs.Stepped.{not-refused, none-refused, done-step, step-changes}
-use Rattle.laws_step.proofs.Moving.{flag-changes, flags-written}
+use Rattle.laws_step.proofs.Moving.{flag-changes}
 
--- ---- conditions
+-- ---- conditions, once or lasting
+
+-- an event that is refused by its flag byte alone, and sets the flags of a set's lanes
+module _ (room : ℕ) (s : State) (bytes : List ℕ) (c : Call) (flag mask : ℕ) (d : stepOn room s c bytes .answer ≡ Done)
+    (r : eventRefusals room s c ≡ refuse NoSuchTarget (not (isConditionFlag flag)) ∷ [])
+    (e : eventEffect early s bytes c .state .image ≡ conditionImage flag mask (s .image)) where
+  flag-listed : isConditionFlag flag ≡ true
+  unfolding isDone
+  flag-listed = not-false _ (not-refused NoSuchTarget _ [] refl (rw r at (none-refused room s (event c bytes) d)) .0)
+
+  sets-changes : ChangesOnly (orIn interruptSet (flagSet flag (has mask))) (s .image) (stepOn room s c bytes .state .image)
+  unfolding conditionImage
+  sets-changes = step-changes room s (event c bytes) _ d (rw e (flag-changes flag mask (s .image)))
+
+  sets-flags : length (s .image) ≡ imageLength → (m : ℕ) → m < 8 → has mask m ≡ true → get (stepOn room s c bytes .state .image) (flagAt flag m) ≡ 1
+  unfolding doneStep conditionImage
+  sets-flags size m h t = rw (done-step room s (event c bytes) d, e)
+      (settled-lane _ (on page11 flag) 1 m (omega arith) ∙ flag-in (s .image) flag mask m (omega (arith, condition-in flag flag-listed)) h t)
 
 module _ (room : ℕ) (s : State) (bytes : List ℕ) (flag mask : ℕ) (d : stepOn room s (Condition flag mask) bytes .answer ≡ Done) where
   pub condition-changes : ChangesOnly (orIn interruptSet (flagSet flag (has mask))) (s .image) (stepOn room s (Condition flag mask) bytes .state .image)
-  unfolding eventEffect conditionImage
-  condition-changes = step-changes room s (event (Condition flag mask) bytes) _ d (flag-changes flag mask (s .image))
+  unfolding eventEffect eventRefusals
+  condition-changes = sets-changes room s bytes (Condition flag mask) flag mask d refl refl
 
   pub condition-keeps-records : stepOn room s (Condition flag mask) bytes .state .working ≡ s .working
   unfolding doneStep eventEffect
   condition-keeps-records = rw (done-step room s (event (Condition flag mask) bytes) d)
 
   pub is-listed : isConditionFlag flag ≡ true
-  unfolding eventRefusals isDone
-  is-listed = not-false _ (not-refused NoSuchTarget _ [] refl (none-refused room s (event (Condition flag mask) bytes) d) .0)
+  unfolding eventEffect eventRefusals
+  is-listed = flag-listed room s bytes (Condition flag mask) flag mask d refl refl
 
   -- every bit of the mask is set
   pub condition-sets : length (s .image) ≡ imageLength → (m : ℕ) → m < 8 → has mask m ≡ true
       → get (stepOn room s (Condition flag mask) bytes .state .image) (flagAt flag m) ≡ 1
-  unfolding doneStep eventEffect conditionImage
-  condition-sets size m h e = rw (done-step room s (event (Condition flag mask) bytes) d)
-      (settled-lane _ (on page11 flag) 1 m (omega arith) ∙ flags-written flag mask (s .image) m (omega (arith, condition-in flag is-listed)) h e)
+  unfolding eventEffect eventRefusals
+  condition-sets = sets-flags room s bytes (Condition flag mask) flag mask d refl refl
+
+module _ (room : ℕ) (s : State) (bytes : List ℕ) (flag on off : ℕ) (d : stepOn room s (Lasting flag on off) bytes .answer ≡ Done) where
+  pub lasting-changes : ChangesOnly (orIn interruptSet (flagSet flag (has on))) (s .image) (stepOn room s (Lasting flag on off) bytes .state .image)
+  unfolding eventEffect eventRefusals lastingState
+  lasting-changes = sets-changes room s bytes (Lasting flag on off) flag on d refl refl
+
+  pub lasting-listed : isConditionFlag flag ≡ true
+  unfolding eventEffect eventRefusals lastingState
+  lasting-listed = flag-listed room s bytes (Lasting flag on off) flag on d refl refl
+
+  -- every bit of the on mask is set, and none of the off mask is cleared
+  pub lasting-sets : length (s .image) ≡ imageLength → (m : ℕ) → m < 8 → has on m ≡ true
+      → get (stepOn room s (Lasting flag on off) bytes .state .image) (flagAt flag m) ≡ 1
+  unfolding eventEffect eventRefusals lastingState
+  lasting-sets = sets-flags room s bytes (Lasting flag on off) flag on d refl refl
 
 -- ---- samples
 
@@ -193,14 +227,10 @@ module _ (room : ℕ) (s : State) (bytes : List ℕ) (l p : ℕ) (d : stepOn roo
   is-lane = ltb-true l 8 (not-false _ (not-refused NoSuchTarget _ [] refl (none-refused room s (event (Sample l p) bytes) d) .0))
 
   pub sampled-changes : ChangesOnly (orIn interruptSet (sampleSet l)) (s .image) (stepOn room s (Sample l p) bytes .state .image)
-  unfolding eventEffect
+  unfolding eventEffect sampledState
   sampled-changes = step-changes room s (event (Sample l p) bytes) _ d (sample-changes l p (s .image) is-lane)
-
-  pub sampled-keeps-records : stepOn room s (Sample l p) bytes .state .working ≡ s .working
-  unfolding doneStep eventEffect
-  sampled-keeps-records = rw (done-step room s (event (Sample l p) bytes) d)
 
   -- the power, 16 bits, is stored, and the lane's flags tell which limits it passes
   pub sampled-told : length (s .image) ≡ imageLength → p < 65536 → PowerTold l p (s .image) (stepOn room s (Sample l p) bytes .state .image)
-  unfolding doneStep eventEffect
+  unfolding doneStep eventEffect sampledState
   sampled-told size fits = rw (done-step room s (event (Sample l p) bytes) d) (sample-told l p (s .image) is-lane size fits)

@@ -24,7 +24,7 @@ use Rattle.laws_step.specs.Changes.{ChangesOnly, statusSet}
 use Rattle.laws_step.specs.Told.{marks}
 use Rattle.laws_step.proofs.Frames.{unless, keeps-refl, keeps-more, keeps-lanes, lanes-more, lanes-bytes}
 use Rattle.laws_step.proofs.Places.{keeps-active}
-use Rattle.laws_step.proofs.Records.{stage-with}
+use Rattle.laws_frames.proofs.Stages.{stage-in}
 
 pub status-changes : (c : ℕ → Bool) (code : ℕ) (x : Image) → ChangesOnly (statusSet c) x (withStatus c code x)
 unfolding withStatus statusSet
@@ -62,12 +62,12 @@ module _ (t : Trigger) (base : ℕ) (s : State) (selected : ℕ) where
   unfolding triggeredState markedState marks stageAfter pick both
   trigger-keeps-record l h e = split (isIgnored t (s .image))
       (λ i. rw (i, pick))
-      (λ i. rw (i, pick) (stage-with (s .working) _ l h ∙ pick-false _ _ (rw (i, both) at e)))
+      (λ i. rw (i, pick) (stage-in (s .working) _ l h ∙ pick-false _ _ (rw (i, both) at e)))
 
   pub trigger-marks : (l : ℕ) → l < 8 → marks t base s selected l ≡ true
       → (isInProgress (stageAt (s .working) l) ≡ false) × (stageAt (triggeredState t base s selected .working) l ≡ markedStage t (viewOf base (s .image)) selected l)
   unfolding triggeredState markedState marks stageAfter pick
   trigger-marks l h e = (
     marked-idle _ _ selected l h (both-r _ _ e),
-    rw (not-true (isIgnored t (s .image)) (both-l _ _ e), pick) (stage-with (s .working) _ l h ∙ pick-true _ _ (both-r _ _ e)),
+    rw (not-true (isIgnored t (s .image)) (both-l _ _ e), pick) (stage-in (s .working) _ l h ∙ pick-true _ _ (both-r _ _ e)),
   )

@@ -40,7 +40,7 @@ use Rattle.laws_step.proofs.Settling.{sparesFlags, sparesInterrupt, set
 use Rattle.laws_step.proofs.Stepped.{work-done}
 use Rattle.laws_step.proofs.Places.{in-image}
 use Rattle.laws_step.proofs.Triggering.{status-changes}
-use Rattle.laws_step.proofs.Records.{freed-in, freed-out, advanced-in, advanced-out}
+use Rattle.laws_frames.proofs.Stages.{freed-in, freed-out, advanced-in, advanced-out}
 use Rattle.laws_step.proofs.Held.{code-fits, next-fits, written-fits}
 
 -- ---- what the parts of a step change

@@ -2,7 +2,7 @@
 use mathlib.Core.Path.{_≡_}
 use mathlib.Core.Bool.{Bool, true, false, not}
 use mathlib.Core.List.{List, [], _∷_, _++_}
-use mathlib.Core.Logic.{_⊎_}
+use mathlib.Core.Logic.{_⊎_, _≢_}
 use Prim.Native.Nat.{ℕ, suc, _+_, _-_, _*_, _≤_, _<_}
 use lib.Dec.{eqb, leb, ltb}
 use lib.ListN.{length, getD, take}
@@ -10,9 +10,9 @@ use Rattle.bits.specs.Choice.{pick, onlyIf, both, either}
 use Rattle.bits.specs.Loop.{Among}
 use Rattle.bits.specs.Place.{get, digit, covers}
 use Rattle.bits.specs.Sets.{has, nextIn, laneCount, firstIn}
-use Rattle.model.specs.Map.{Image, Range, range, rangeOn, inRanges, writableRanges, clearedRanges, moduleState, commandStatus, commandCompleteBit, commandNumber, replyLength, replyCode, messageBody, page11, on, activeSet, outputDisableAt, squelchForceAt, statusAt, stateAt, bankSelect, pageSelect, writable, clearing, FlagPair, flagPairs, pendingAt, flagAt, stateChangedFlag, receivedPower, highAlarmLimit, lowAlarmLimit, highWarningLimit, lowWarningLimit, highAlarmFlag, lowAlarmFlag, highWarningFlag, lowWarningFlag}
+use Rattle.model.specs.Map.{Image, Range, range, rangeOn, inRanges, writableRanges, clearedRanges, moduleState, commandStatus, commandCompleteBit, commandNumber, replyLength, replyCode, messageBody, page11, on, activeSet, outputDisableAt, squelchForceAt, statusAt, stateAt, bankSelect, pageSelect, writable, clearing, FlagPair, flagPairs, lastingIndex, pendingAt, flagAt, stateChangedFlag, receivedPower, highAlarmLimit, lowAlarmLimit, highWarningLimit, lowWarningLimit, highAlarmFlag, lowAlarmFlag, highWarningFlag, lowWarningFlag}
 use Rattle.model.specs.PathStates.{codeOf, resting}
-use Rattle.model.specs.Records.{stageAt, isInProgress, heldIn, withVerdict}
+use Rattle.model.specs.Records.{stageAt, onAt, onLanes, isInProgress, heldIn, withVerdict}
 use Rattle.model.specs.View.{viewOf, settingsAt}
 use Rattle.model.specs.State.{State}
 use Rattle.model.specs.Triggers.{isMarked, isIgnored}
@@ -24,7 +24,7 @@ use Rattle.model.specs.Commands.{bodyLimit, checkCode, sumOf, lengthOf, replyOf
 use Rattle.model.specs.Access.{bytesWrittenState, runsCommand}
 use Rattle.model.specs.Step.{event, Stepped, step}
 use Rattle.model.specs.declared.event.Call.{Call}
-use Rattle.model.specs.declared.event.Call.the-variants.{Write, Read, Work, Hardware, Condition, Sample}
+use Rattle.model.specs.declared.event.Call.the-variants.{Write, Read, Work, Hardware, Condition, Sample, Lasting}
 use Rattle.model.specs.declared.command.Command.{Command}
 use Rattle.model.specs.declared.command.CommandStatus.{CommandStatus}
 use Rattle.model.specs.declared.command.CommandStatus.the-variants.{Success, UnknownNumber, WrongCode}
@@ -59,6 +59,14 @@ amid from to i = both (leb from i) (ltb i to)
 -- the bytes that a read of n bytes from an address clears: of lower 8-9 and 11h:134-153 those that it reads
 unfoldable pub clearedBy : Image → ℕ → ℕ → Bits
 clearedBy x address n = inBytes (λ i. both (clearing i) (amid (indexOf x address) (indexOf x address + n) i))
+
+-- the flag bytes whose flags can last
+abbrev pub lastingRanges : List Range
+lastingRanges = rangeOn page11 135 138 ∷ rangeOn page11 147 152 ∷ []
+
+-- what is on for a byte that a read clears: of such a flag byte the lanes whose flag is on, of any other nothing
+unfoldable pub onByte : Working → ℕ → ℕ
+onByte w i = pick (inRanges lastingRanges i) (onLanes w (lastingIndex (128 + (i - page11)))) 0
 
 -- lane l is marked by a trigger
 unfoldable pub marks : Trigger → ℕ → State → ℕ → ℕ → Bool
@@ -141,6 +149,7 @@ runsOn x (Work l) = false
 runsOn x (Hardware l) = false
 runsOn x (Condition flag mask) = false
 runsOn x (Sample l p) = false
+runsOn x (Lasting flag on off) = false
 
 -- ---- work steps
 
@@ -219,6 +228,32 @@ pub record PowerTold (l p : ℕ) (before after : Image) : Type 0 where
   pub belowAlarm : get after (flagAt lowAlarmFlag l) ≡ pick (ltb p (power before lowAlarmLimit)) 1 (get before (flagAt lowAlarmFlag l))
   pub aboveWarning : get after (flagAt highWarningFlag l) ≡ pick (ltb (power before highWarningLimit) p) 1 (get before (flagAt highWarningFlag l))
   pub belowWarning : get after (flagAt lowWarningFlag l) ≡ pick (ltb p (power before lowWarningLimit)) 1 (get before (flagAt lowWarningFlag l))
+
+-- ---- what is on
+
+-- the flags of lane l that are on after a lasting condition: of the flag byte, the flag goes on unless its bit is in the off mask, and comes on where its bit
+-- is in the on mask; of every other flag byte it is as it was
+pub record LastingTold (flag on off l : ℕ) (before after : Working) : Type 0 where
+  pub named : has (onAt after l) (lastingIndex flag) ≡ either (both (has (onAt before l) (lastingIndex flag)) (not (has off l))) (has on l)
+  pub others : (k : ℕ) → k ≢ lastingIndex flag → has (onAt after l) k ≡ has (onAt before l) k
+
+-- the flags of lane l that are on after a sample of it: of received power those whose limits it passes; the others are as they were
+pub record SampleOn (l p : ℕ) (x : Image) (before after : Working) : Type 0 where
+  pub aboveAlarm : has (onAt after l) (lastingIndex highAlarmFlag) ≡ ltb (power x highAlarmLimit) p
+  pub belowAlarm : has (onAt after l) (lastingIndex lowAlarmFlag) ≡ ltb p (power x lowAlarmLimit)
+  pub aboveWarning : has (onAt after l) (lastingIndex highWarningFlag) ≡ ltb (power x highWarningLimit) p
+  pub belowWarning : has (onAt after l) (lastingIndex lowWarningFlag) ≡ ltb p (power x lowWarningLimit)
+  pub others : (k : ℕ) → (k < lastingIndex highAlarmFlag) ⊎ (lastingIndex lowWarningFlag < k) → has (onAt after l) k ≡ has (onAt before l) k
+
+-- a call that may change what is on for lane l: a lasting condition, and a sample of the lane
+unfoldable pub mayTurn : Call → ℕ → Bool
+mayTurn (Write address count) l = false
+mayTurn (Read address count) l = false
+mayTurn (Work m) l = false
+mayTurn (Hardware m) l = false
+mayTurn (Condition flag mask) l = false
+mayTurn (Sample m p) l = eqb m l
+mayTurn (Lasting flag on off) l = true
 
 -- ---- every event
 

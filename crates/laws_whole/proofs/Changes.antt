@@ -16,13 +16,14 @@ use Rattle.bits.specs.declared.Place.{Place}
 use Rattle.bits.proofs.Tests.{both-l, both-r}
 use Rattle.bits.proofs.Loops.{each-two, any-ext}
 use Rattle.bits.proofs.Members.{any-of-none, any-of-ext}
-use Rattle.model.specs.Map.{Image, stateAt, statusAt, pendingAt, flagAt, interruptBit, steppedBit, receivedPower, clearing, activeSet, FlagPair, flagPairs, highAlarmLimit, lowAlarmLimit, highWarningLimit, lowWarningLimit, page10, imageLength, page9F, commandCompleteBit, commandStatus, firmwareMajor, firmwareMinor, replyLength, replyCode, messageBody}
+use Rattle.model.specs.Map.{Image, stateAt, statusAt, pendingAt, flagAt, interruptBit, steppedBit, receivedPower, clearing, activeSet, FlagPair, flagPairs, lastingCount, lastingFlag, highAlarmLimit, lowAlarmLimit, highWarningLimit, lowWarningLimit, page10, imageLength, page9F, commandCompleteBit, commandStatus, firmwareMajor, firmwareMinor, replyLength, replyCode, messageBody}
+use Rattle.model.specs.Records.{onLanes}
 use Rattle.model.specs.Registers.{withStatus, withPending, withPathState, withFlags}
 use Rattle.model.specs.Triggers.{isIgnored}
 use Rattle.model.specs.PathStates.{codeOf}
 use Rattle.model.specs.Work.{pendingAfter}
 use Rattle.model.specs.Hardware.{someBit, toDeinit, toReinit, toDeactivate, signalsOf, nextState, enteredImage, movedImage, movedPathImage}
-use Rattle.model.specs.Flags.{raisedImage, sampledImage, isUnmasked, interrupts, settledImage, conditionImage, power}
+use Rattle.model.specs.Flags.{raisedImage, sampledImage, sampledOn, shownAgainImage, isUnmasked, interrupts, settledImage, conditionImage, power}
 use Rattle.model.specs.Pages.{withPage, pageStart, selectedStart, indexOf, selectedImage}
 use Rattle.model.specs.Commands.{lengthOf, replyOf, statusCode, statusOf, withReplyHeader, withReply, repliedImage, completedImage, commandImage}
 use Rattle.model.specs.Access.{runsCommand, clearedImage}
@@ -30,6 +31,7 @@ use Rattle.model.specs.declared.command.CommandStatus.{CommandStatus}
 use Rattle.model.specs.declared.command.CommandStatus.the-variants.{Success, UnknownNumber, WrongCode}
 use Rattle.model.specs.declared.lane.Trigger.{Trigger}
 use Rattle.model.specs.declared.lane.Trigger.the-variants.{DpInit, Immediate}
+use Rattle.model.specs.declared.lane.Working.{Working}
 use Rattle.model.specs.declared.page.PageStart.{PageStart}
 use Rattle.model.specs.declared.page.PageStart.the-variants.{Unsupported, At}
 use Rattle.model.specs.declared.path.PathState.{PathState}
@@ -93,6 +95,10 @@ module _ (except : ℕ → ℕ → Bool) where
   unfolding clearedImage
   alike-cleared i n x y A = each-two (Alike except) (λ k. clearing (i + k)) (λ k z. set z (i + k) 0) (λ k z. set z (i + k) 0) n
       (λ k u z b t. alike-set except u z (i + k) 0) x y A
+
+  pub alike-shown : (w : Working) (i n : ℕ) (x y : Image) → Alike except x y → Alike except (shownAgainImage w i n x) (shownAgainImage w i n y)
+  unfolding shownAgainImage
+  alike-shown w i n x y A = each-two (Alike except) _ _ _ lastingCount (λ k u z b t. alike-flags (lastingFlag k) (onLanes w k) u z) x y A
 
   alike-reply-header : (n code : ℕ) (x y : Image) → Alike except x y → Alike except (withReplyHeader n code x) (withReplyHeader n code y)
   unfolding withReplyHeader
@@ -182,6 +188,14 @@ module _ (c : ℕ → Bool) (x y : Image) (A : Alike (activeBitOf c) x y) where
   alike-sampled l p = rw (limit-same highAlarmLimit (omega arith), limit-same lowAlarmLimit (omega arith), limit-same highWarningLimit (omega arith), limit-same lowWarningLimit (omega arith))
       (alike-raised (activeBitOf c) _ 152 l _ _ (alike-raised (activeBitOf c) _ 151 l _ _
       (alike-raised (activeBitOf c) _ 150 l _ _ (alike-raised (activeBitOf c) _ 149 l _ _ (alike-word (activeBitOf c) (receivedPower + 2 * l) p x y A)))))
+
+  -- what a sample says is on
+  sampled-bits : (p bits : ℕ) → sampledOn y p bits ≡ sampledOn x p bits
+  unfolding sampledOn
+  sampled-bits p bits = rw (limit-same highAlarmLimit (omega arith), limit-same lowAlarmLimit (omega arith), limit-same highWarningLimit (omega arith), limit-same lowWarningLimit (omega arith))
+
+  pub sampled-same : (p : ℕ) → sampledOn y p ≡ sampledOn x p
+  sampled-same p = λ i bits. sampled-bits p bits i
 
   pub state-read : (l : ℕ) → l < 8 → get y (stateAt l) ≡ get x (stateAt l)
   state-read l b = state-same x y l b (λ i a h. low i (omega arith))

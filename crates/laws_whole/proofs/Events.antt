@@ -21,15 +21,16 @@ use Rattle.model.specs.View.{pathOf}
 use Rattle.model.specs.State.{State, withImage, stateWith}
 use Rattle.model.specs.Work.{early, late}
 use Rattle.model.specs.Hardware.{hardwareImage}
-use Rattle.model.specs.Flags.{isConditionFlag, settledImage}
+use Rattle.model.specs.Flags.{isConditionFlag, lastingState, sampledState, settledImage}
 use Rattle.model.specs.Pages.{indexOf}
 use Rattle.model.specs.Access.{endedState, shownByte, takenBytes}
 use Rattle.model.specs.Refusals.{refuse, firstOf, noSuchLane, isBusy, isUnused, eventRefusals}
 use Rattle.model.specs.Step.{readEffect, eventEffect}
 use Rattle.model.specs.declared.answer.Answer.the-variants.{Busy, NoSuchTarget}
 use Rattle.model.specs.declared.event.Call.{Call}
-use Rattle.model.specs.declared.event.Call.the-variants.{Write, Read, Work, Hardware, Condition, Sample}
+use Rattle.model.specs.declared.event.Call.the-variants.{Write, Read, Work, Hardware, Condition, Sample, Lasting}
 use Rattle.model.specs.declared.lane.Working.{Working}
+use Rattle.laws_frames.proofs.Stages.{stage-kept}
 use Rattle.laws_sound.specs.Sound.{seenOf, Sound}
 use Rattle.laws_sound.proofs.Steps.{not-refused}
 use Rattle.laws_whole.specs.Whole.{hidden, Alike, hiddenRead}
@@ -37,8 +38,8 @@ use Rattle.laws_whole.proofs.Agree.{of-none, none-of}
 use Rattle.laws_whole.proofs.Sees.{activeOf}
 use Rattle.laws_sound.proofs.Stranger.{idle-passing}
 use Rattle.laws_whole.proofs.Pairs.{passed, passing-busy, veiled, Pair, Paired, same-active, same-lanes}
-use Rattle.laws_whole.proofs.Kept.{keeps-ended, changed, waits-keeps, keeps-settled, keeps-sample, keeps-condition, keeps-hardware, keeps-cleared}
-use Rattle.laws_whole.proofs.Changes.{alike-ended, alike-condition, alike-cleared, alike-settled, alike-sampled, alike-moved, place-same, state-read}
+use Rattle.laws_whole.proofs.Kept.{keeps-ended, changed, waits-keeps, keeps-settled, keeps-sample, keeps-condition, keeps-hardware, keeps-read, changed-records}
+use Rattle.laws_whole.proofs.Changes.{alike-ended, alike-condition, alike-cleared, alike-shown, alike-settled, alike-sampled, sampled-same, alike-moved, place-same, state-read}
 use Rattle.laws_sound.proofs.Quiet.{Well}
 use Rattle.laws_whole.proofs.Bytes.{bytes-pair}
 use Rattle.laws_whole.proofs.Working.{Carries, leaves-pair, work-carries}
@@ -108,6 +109,7 @@ module _ (x y : Image) (w : Working) (S : Sound (seenOf (stateWith x w))) (P : P
   refusals-same room (Hardware l) = hardware-same room l
   refusals-same room (Condition flag mask) = refl
   refusals-same room (Sample l p) = refl
+  refusals-same room (Lasting flag on off) = refl
 
   -- ---- reads
   shown-alike : (i b : ℕ) → veiled w i b ≡ false → field (shownByte x i) b 1 ≡ field (shownByte y i) b 1
@@ -129,7 +131,7 @@ module _ (x y : Image) (w : Working) (S : Sound (seenOf (stateWith x w))) (P : P
   read-carries : (address count : ℕ) → Carries (hiddenRead (stateWith x w) (Read address count)) (readEffect (stateWith x w) (indexOf x address) count) (readEffect (stateWith y w) (indexOf y address) count)
   unfolding readEffect hiddenRead
   read-carries address count = rw (place-same (passed w) x y (P .alike) address) (record {
-    states = changed x y _ _ w P (keeps-cleared x _ count) (keeps-cleared y _ count) (alike-cleared (veiled w) _ count x y (P .alike));
+    states = changed x y _ _ w P (keeps-read w x _ count) (keeps-read w y _ count) (alike-shown (veiled w) w _ count _ _ (alike-cleared (veiled w) _ count x y (P .alike)));
     mask = refl;
     bytes = taken-alike (indexOf x address) count;
   })
@@ -144,7 +146,7 @@ module _ (x y : Image) (w : Working) (S : Sound (seenOf (stateWith x w))) (P : P
 module _ (x y : Image) (w : Working) (two : ℕ) (T : Well two (stateWith x w)) (P : Pair x y w) where
   pub carried-pair : (room : ℕ) (bytes : List ℕ) (c : Call) → isDone (firstOf (eventRefusals room (stateWith x w) c)) ≡ true
       → Carries (hiddenRead (stateWith x w) c) (eventEffect early (stateWith x w) bytes c) (eventEffect late (stateWith y w) bytes c)
-  unfolding eventEffect eventRefusals isDone
+  unfolding eventEffect sampledState lastingState eventRefusals isDone
   carried-pair room bytes (Write address count) d = leaves-pair _ (ended-pair address count _ _ (bytes-pair (take count bytes) address x y w two T P))
   carried-pair room bytes (Read address count) d = read-carries x y w (T .sound) P address count
   carried-pair room bytes (Work l) d =
@@ -159,4 +161,8 @@ module _ (x y : Image) (w : Working) (two : ℕ) (T : Well two (stateWith x w)) 
       leaves-pair _ (changed x y _ _ w P (keeps-condition flag mask x e) (keeps-condition flag mask y e) (alike-condition (veiled w) flag mask x y (P .alike)))
   carried-pair room bytes (Sample l p) d =
       let b : l < 8 = lane-below l (not-refused (refuse NoSuchTarget (noSuchLane l)) _ refl d .0) in
-      leaves-pair _ (changed x y _ _ w P (keeps-sample l p x b) (keeps-sample l p y b) (alike-sampled (passed w) x y (P .alike) l p))
+      rw (sampled-same (passed w) x y (P .alike) p)
+      (leaves-pair _ (changed-records x y _ _ w _ (stage-kept w _) P (keeps-sample l p x b) (keeps-sample l p y b) (alike-sampled (passed w) x y (P .alike) l p)))
+  carried-pair room bytes (Lasting flag on off) d =
+      let e : isConditionFlag flag ≡ true = not-false _ (not-refused (refuse NoSuchTarget (not (isConditionFlag flag))) _ refl d .0) in
+      leaves-pair _ (changed-records x y _ _ w _ (stage-kept w _) P (keeps-condition flag on x e) (keeps-condition flag on y e) (alike-condition (veiled w) flag on x y (P .alike)))

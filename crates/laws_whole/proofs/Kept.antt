@@ -1,5 +1,5 @@
 -- Every change but the copying leaves what the module advertises and the active settings alone. Assumes nothing.
-use mathlib.Core.Path.{_≡_, refl, _∙_}
+use mathlib.Core.Path.{_≡_, refl, sym, _∙_}
 use mathlib.Core.Bool.{Bool, true, false}
 use mathlib.Core.Logic.{inl, inr}
 use Prim.Native.Nat.{ℕ, _+_, _≤_, _<_}
@@ -7,11 +7,13 @@ use native.Mathlib.Omega.{arith}
 use lib.ListN.{length, set}
 use Rattle.bits.specs.Choice.{onlyIf}
 use Rattle.bits.specs.Sets.{has}
+use Rattle.bits.proofs.Loops.{any-ext}
 use Rattle.model.specs.Map.{Image, writable, activeSet, setLength, page10, pendingByte}
+use Rattle.model.specs.Records.{stageAt}
 use Rattle.model.specs.Registers.{withStatus, withPending}
 use Rattle.model.specs.Work.{pendingAfter}
 use Rattle.model.specs.Hardware.{hardwareImage}
-use Rattle.model.specs.Flags.{isConditionFlag, conditionImage, sampledImage, settledImage}
+use Rattle.model.specs.Flags.{isConditionFlag, conditionImage, sampledImage, shownAgainImage, settledImage}
 use Rattle.model.specs.Pages.{selectedImage}
 use Rattle.model.specs.Commands.{commandImage}
 use Rattle.model.specs.Access.{runsCommand, clearedImage}
@@ -19,10 +21,10 @@ use Rattle.model.specs.declared.lane.Trigger.{Trigger}
 use Rattle.model.specs.declared.lane.Trigger.the-variants.{DpInit, Immediate}
 use Rattle.model.specs.declared.lane.Working.{Working}
 use Rattle.model.specs.State.{stateWith}
-use Rattle.laws_whole.specs.Whole.{Alike}
+use Rattle.laws_whole.specs.Whole.{activeBitOf, Alike}
 use Rattle.laws_frames.proofs.Registers.{advertised-below, settings-same, applications-same}
 use Rattle.laws_frames.proofs.Changes.{status-outside, pending-outside, off-advertised, hardware-off}
-use Rattle.laws_sound.proofs.Quiet.{Quiet, advertised-kept, lane-kept, set-quiet, selected-quiet, settled-quiet, sampled-quiet, condition-quiet, cleared-quiet, command-quiet}
+use Rattle.laws_sound.proofs.Quiet.{Quiet, advertised-kept, lane-kept, set-quiet, selected-quiet, settled-quiet, sampled-quiet, condition-quiet, cleared-quiet, shown-quiet, command-quiet}
 use Rattle.laws_frames.specs.Frames.{SameOutside, SameWithin, SameAdvertised, SameOffPath}
 use Rattle.laws_whole.proofs.Pairs.{veiled, Waits, Pair, Paired}
 
@@ -49,6 +51,19 @@ waits-keeps y z w K W l n p b e q = rw (settings-same activeSet y z (K .active),
 -- and the two images stay a pair
 pub changed : (x y u z : Image) (w : Working) → Pair x y w → Keeps x u → Keeps y z → Alike (veiled w) u z → Paired (stateWith u w) (stateWith z w)
 changed x y u z w P K L A = record { working = refl; pair = record { size = K .size ∙ P .size; alike = A; waits = waits-keeps y z w L (P .waits) } }
+
+-- .. also where the records change in the same way in both runs, and their stages do not
+pub changed-records : (x y u z : Image) (w v : Working) → ((l : ℕ) → l < 8 → stageAt v l ≡ stageAt w l) → Pair x y w → Keeps x u → Keeps y z → Alike (veiled w) u z
+    → Paired (stateWith u v) (stateWith z v)
+unfolding activeBitOf
+changed-records x y u z w v e P K L A = record {
+  working = refl;
+  pair = record {
+    size = K .size ∙ P .size;
+    alike = record { size = A .size; bits = λ i b h. A .bits i b (any-ext 8 _ _ (λ l c. rw (e l c)) ∙ h) };
+    waits = λ l n p b q d. waits-keeps y z w L (P .waits) l n p b (sym (e l b) ∙ q) d;
+  };
+}
 
 -- ---- a change that stays in a range: between the two, or above
 
@@ -103,8 +118,8 @@ keeps-page page y = keeps-quiet (selected-quiet page y)
 pub keeps-set : (y : Image) (j v : ℕ) → writable j ≡ true → Keeps y (set y j v)
 keeps-set y j v e = keeps-quiet (set-quiet y j v e)
 
-pub keeps-cleared : (y : Image) (i n : ℕ) → Keeps y (clearedImage y i n)
-keeps-cleared y i n = keeps-quiet (cleared-quiet y i n)
+pub keeps-read : (w : Working) (y : Image) (i n : ℕ) → Keeps y (shownAgainImage w i n (clearedImage y i n))
+keeps-read w y i n = keeps-trans (keeps-quiet (cleared-quiet y i n)) (keeps-quiet (shown-quiet w i n (clearedImage y i n)))
 
 pub keeps-condition : (flag mask : ℕ) (y : Image) → isConditionFlag flag ≡ true → Keeps y (conditionImage flag mask y)
 keeps-condition flag mask y e = keeps-quiet (condition-quiet flag mask y e)

@@ -11,10 +11,9 @@ use Rattle.model.specs.Records.{stageAt, isInProgress}
 use Rattle.model.specs.View.{settingsAt}
 use Rattle.model.specs.State.{State}
 use Rattle.model.specs.Work.{early, late}
-use Rattle.model.specs.Step.{step}
+use Rattle.model.specs.Step.{readCount, step}
 use Rattle.model.specs.Outcome.{Outcome, startOutcome, stepOutcome}
 use Rattle.model.specs.declared.event.Event.{Event}
-use Rattle.laws.specs.Reading.{readCount}
 use Rattle.laws.specs.Calls.{Called, outcomeAt, outcomes, stateAfter}
 use Rattle.laws.proofs.Reading.{step-reads}
 use Rattle.laws_frames.proofs.Registers.{settings-at-same}

@@ -15,13 +15,11 @@ use Rattle.model.specs.State.{State}
 use Rattle.model.specs.Work.{early, late}
 use Rattle.model.specs.Pages.{indexOf}
 use Rattle.model.specs.Start.{startedState}
-use Rattle.model.specs.Step.{Stepped, step}
+use Rattle.model.specs.Step.{readCount, readAddress, Stepped, step}
 use Rattle.model.specs.Outcome.{Outcome, startOutcome, stepOutcome}
 use Rattle.model.specs.declared.event.Call.{Call}
-use Rattle.model.specs.declared.event.Call.the-variants.{Write, Read, Work, Hardware, Condition, Sample}
 use Rattle.model.specs.declared.event.Event.{Event}
 use Rattle.model.specs.declared.lane.Working.{Working}
-use Rattle.laws.specs.Reading.{readCount}
 use Rattle.laws.specs.Calls.{Called}
 use Rattle.laws_sound.specs.Reached.{through}
 
@@ -65,15 +63,6 @@ pub record SameState (s a : State) : Type 0 where
   pub working : s .working ≡ a .working
   pub image : Alike (hidden (s .working)) (s .image) (a .image)
   pub quiet : NoneInProgress (s .working) → s .image ≡ a .image
-
--- the address that an event reads from; 0 where it reads nothing
-abbrev pub readAddress : Call → ℕ
-readAddress (Write address count) = 0
-readAddress (Read address count) = address
-readAddress (Work l) = 0
-readAddress (Hardware l) = 0
-readAddress (Condition flag mask) = 0
-readAddress (Sample l p) = 0
 
 -- bit b of the k-th byte that the event reads in a state is hidden there
 unfoldable pub hiddenRead : State → Call → ℕ → ℕ → Bool

@@ -1,9 +1,9 @@
 // The register map in code: where each page and each lane register starts, and which bytes of the image keep a write, are cleared by a read, or are kept by start.
 ghost use mathlib.Core.Path.{_≡_};
-ghost use Prim.Native.Nat.{_+_, _≤_};
+ghost use Prim.Native.Nat.{_+_, _≤_, _<_};
 ghost use lib.Dec.{leb};
 ghost use Rattle.bits.specs.Choice.{both};
-ghost use Rattle.model.specs.Map.{imageLength, pageLength, on, writable, clearing, kept};
+ghost use Rattle.model.specs.Map.{imageLength, pageLength, on, lastingCount, lastingFlag, lastingIndex, writable, clearing, kept};
 
 // The image: lower memory, then six pages; a page's addresses start at UPPER.
 pub const IMAGE_LENGTH: usize = 896;
@@ -25,10 +25,12 @@ pub const PAGE_11: usize = 640;
 
 pub const PAGE_9F: usize = 768;
 
-// Lower 3: the module's state, with InterruptDeasserted in bit 0. Lower 8: its own flags.
+// Lower 3: the module's state, with InterruptDeasserted in bit 0. Lower 8 and 9: its own flags.
 pub const MODULE_STATE: usize = 3;
 
 pub const MODULE_FLAGS: usize = 8;
+
+pub const LAST_MODULE_FLAGS: usize = 9;
 
 // Page 02h: the limits of received power, two bytes each, in 0.1 µW.
 pub const HIGH_ALARM: usize = PAGE_02 + (192 - 128);
@@ -57,6 +59,18 @@ pub const STATES: usize = PAGE_11 + (128 - 128);
 
 pub const STATE_CHANGED: usize = PAGE_11 + (134 - 128);
 
+// .. its flag bytes: where they start in the image, and how many there are.
+pub const FLAG_BYTES: usize = PAGE_11 + (134 - 128);
+
+pub const FLAG_BYTE_COUNT: u8 = 20;
+
+// .. the flags that can last, counted from 0: the address of each of the first four is FIRST_LASTING and its number, of each other LATER_LASTING and its number.
+pub const LASTING_COUNT: u8 = 10;
+
+pub const FIRST_LASTING: u8 = 135;
+
+pub const LATER_LASTING: u8 = 143;
+
 pub const STATUSES: usize = PAGE_11 + (202 - 128);
 
 pub const ACTIVE_SET: usize = PAGE_11 + (206 - 128);
@@ -69,6 +83,30 @@ pub fn on(page: usize, address: u8) -> usize
     ensures { λ r. ⌜ r ≡ on page address ⌝ }
 {
     page + ((address - UPPER) as usize)
+}
+
+// The address of a flag that can last: 135 to 138, then 147 to 152.
+pub fn lasting_flag(k: u8) -> u8
+    requires { ⌜ k < lastingCount ⌝ }
+    ensures { λ r. ⌜ r ≡ lastingFlag k ⌝ }
+{
+    if k < 4 {
+        FIRST_LASTING + k
+    } else {
+        LATER_LASTING + k
+    }
+}
+
+// .. and which of them stands at an address.
+pub fn lasting_index(flag: u8) -> u8
+    requires { ⌜ (135 ≤ flag) × (flag ≤ 152) ⌝ }
+    ensures { λ r. ⌜ r ≡ lastingIndex flag ⌝ }
+{
+    if flag < 147 {
+        flag - FIRST_LASTING
+    } else {
+        flag - LATER_LASTING
+    }
 }
 
 // Whether an index is one of from .. to.

@@ -1,6 +1,6 @@
 -- What every edition of the night file keeps to. Assumes nothing.
 use mathlib.Core.Path.{_≡_, refl, sym, ap, _∙_}
-use mathlib.Core.Bool.{Bool, true, false}
+use mathlib.Core.Bool.{Bool, true}
 use mathlib.Core.List.{List, [], _∷_}
 use Prim.Native.Nat.{ℕ, zero, suc, _≤_, _<_}
 use native.Mathlib.Omega.{arith}
@@ -8,8 +8,8 @@ use lib.Dec.{eqb, leb, ltb}
 use lib.ListN.{length, getD}
 use lib.Seq.{ext-getD}
 use borrow.Author.Tests.{leb-true, ltb-true}
-use Rattle.bits.specs.Choice.{pick, both}
-use Rattle.bits.proofs.Tests.{both-l, both-r}
+use Rattle.bits.specs.Choice.{both}
+use Rattle.bits.proofs.Tests.{both-l, both-r, pick-has}
 use Rattle.model.specs.Numbers.{Bytes, Count}
 use Rattle.model.specs.Map.{imageLength}
 use Rattle.model.specs.File.{Edition, formsWith, firstEdition, laterEditions, editionAmong, firstBytes, laidOut}
@@ -21,15 +21,10 @@ pub data EachHas (P : Edition → Type 0) : List Edition → Type 0 where
   first : P firstEdition → EachHas P []
   row : {e : Edition} {es : List Edition} → P e → EachHas P es → EachHas P (e ∷ es)
 
-one-has : (P : Edition → Type 0) (b : Bool) {e f : Edition} → P e → P f → P (pick b e f)
-unfolding pick
-one-has P true p q = p
-one-has P false p q = q
-
 pub among-has : (P : Edition → Type 0) (n : ℕ) (es : List Edition) → EachHas P es → P (editionAmong es n)
 unfolding editionAmong
 among-has P n [] (first p) = p
-among-has P n (e ∷ es) (row p ps) = one-has P (eqb n (e .number)) p (among-has P n es ps)
+among-has P n (e ∷ es) (row p ps) = pick-has P (eqb n (e .number)) (λ t. p) (λ t. among-has P n es ps)
 
 -- it carries some bytes of an image, and no more than the image has
 unfoldable carriesImage : Edition → Bool

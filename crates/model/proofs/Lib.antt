@@ -1,5 +1,6 @@
--- Where descriptors and pages lie, what every edition keeps to, and laws of the refusals.
+-- Where descriptors and pages lie, which flags can last, what every edition keeps to, and laws of the refusals.
 pub mod Descriptors
+pub mod Lasting
 pub mod Editions
 pub mod Starts
 pub mod Refused

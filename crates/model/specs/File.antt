@@ -14,7 +14,7 @@ use Rattle.model.specs.Refusals.{firstOf, startRefusals}
 use Rattle.model.specs.declared.answer.Answer.{Answer}
 use Rattle.model.specs.declared.answer.Answer.the-variants.{Malformed}
 use Rattle.model.specs.declared.event.Call.{Call}
-use Rattle.model.specs.declared.event.Call.the-variants.{Write, Read, Work, Hardware, Condition, Sample}
+use Rattle.model.specs.declared.event.Call.the-variants.{Write, Read, Work, Hardware, Condition, Sample, Lasting}
 use Rattle.model.specs.declared.event.Event.{Event}
 use Rattle.model.specs.declared.file.FileCheck.{FileCheck}
 use Rattle.model.specs.declared.file.FileCheck.the-variants.{Refused, Good}
@@ -69,7 +69,7 @@ form kind used call = record { kind = kind; used = used; call = call }
 abbrev pub sampleCall : Bytes → Call
 sampleCall bytes = Sample (getD bytes 1 0) (getD bytes 2 0 * 256 + getD bytes 3 0)
 
--- the six forms; an edition may have a condition of its own: how many bytes it uses, and the call that it says
+-- the six forms; the condition's, which not every edition has alike, by how many bytes it uses and the call that it says
 abbrev pub formsWith : Count → (Bytes → Call) → List Form
 formsWith conditionUses conditionCall =
     form writeKind writtenBytes (λ bytes. Write (getD bytes 1 0) (getD bytes 2 0))
@@ -90,9 +90,16 @@ firstForms = formsWith 3 onceCall
 abbrev pub firstEdition : Edition
 firstEdition = record { number = 1; imageBytes = 768; forms = firstForms }
 
--- every edition from the second on: the second carries page 9Fh (02 Req 01)
+-- a lasting condition: a flag byte, an on mask and an off mask
+abbrev pub lastingCall : Bytes → Call
+lastingCall bytes = Lasting (getD bytes 1 0) (getD bytes 2 0) (getD bytes 3 0)
+
+-- every edition from the second on: the second carries page 9Fh (02 Req 01), in the third conditions last (02 Req 02)
 abbrev pub laterEditions : List Edition
-laterEditions = record { number = 2; imageBytes = 896; forms = firstForms } ∷ []
+laterEditions =
+    record { number = 2; imageBytes = 896; forms = firstForms }
+    ∷ record { number = 3; imageBytes = 896; forms = formsWith 4 lastingCall }
+    ∷ []
 
 -- the edition of a number; the first where no later one has it
 unfoldable pub editionAmong : List Edition → Byte → Edition

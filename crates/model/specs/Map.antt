@@ -1,6 +1,6 @@
 -- The register map: every address once, by name (01 "The module we ship"; 002 chapter 8). A register is named by its index in the image; where a host names
 -- it by its address on a page, its name ends in Flag.
-use Prim.Native.Nat.{_+_, _-_}
+use Prim.Native.Nat.{_+_, _-_, _*_, _/_}
 use mathlib.Core.Bool.{Bool, false}
 use Prim.Native.String.{String}
 use mathlib.Core.List.{List, [], _∷_, map}
@@ -10,7 +10,7 @@ use Rattle.bits.specs.Choice.{both, either}
 use Rattle.bits.specs.Lane.{laneField}
 use Rattle.bits.specs.Loop.{tab}
 use Rattle.bits.specs.Sets.{Lane}
-use Rattle.model.specs.Numbers.{Byte, Bytes, Count, Index, Address, SettingIndex}
+use Rattle.model.specs.Numbers.{Byte, Bytes, Count, Index, Address, FlagIndex, SettingIndex}
 use Rattle.bits.specs.declared.Place.{Place}
 
 -- the lent image (01, 02 Req 01): lower memory and six pages of 128 bytes
@@ -212,6 +212,17 @@ highWarningFlag = 151
 
 abbrev pub lowWarningFlag : Address
 lowWarningFlag = 152
+
+-- the flags that can last while their cause does (02 Req 02; 002 section 8.1.4.2), counted from 0: 135 to 138, FailureTx, LOSTx, CDRLOLTx and
+-- AdaptiveInputEqFailTx, are 0 to 3; 147 to 152, LOSRx, CDRLOLRx and the four of received power, are 4 to 9
+abbrev pub lastingCount : Count
+lastingCount = 10
+
+abbrev pub lastingFlag : FlagIndex → Address
+lastingFlag k = 135 + k + 8 * ((k + 4) / 8)
+
+abbrev pub lastingIndex : Address → FlagIndex
+lastingIndex address = address - 135 - 8 * ((address - 135) / 12)
 
 -- 186 on: received power, two bytes a lane (002 table 8-89)
 abbrev pub receivedPower : Index

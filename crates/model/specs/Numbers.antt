@@ -48,6 +48,14 @@ Power = ℕ
 abbrev pub Bit : Type 0
 Bit = ℕ
 
+-- which of the flags that can last, counted from 0
+abbrev pub FlagIndex : Type 0
+FlagIndex = ℕ
+
+-- a lane's flags that are on, a bit for each that can last
+abbrev pub OnBits : Type 0
+OnBits = ℕ
+
 -- which row of the table of settings
 abbrev pub SettingIndex : Type 0
 SettingIndex = ℕ

@@ -1,9 +1,13 @@
--- The lanes' records: reading them and replacing their stages (01 "The module we ship").
+-- The lanes' records: reading them, replacing their stages, and what is on (01 "The module we ship", 02 Req 02).
 use mathlib.Core.Bool.{Bool, true, false}
+use mathlib.Core.List.{List}
 use lib.ListN.{getD}
+use mir.Val.{boolByte}
 use Rattle.bits.specs.Choice.{pick, both}
 use Rattle.bits.specs.Loop.{tab, anyBelow}
-use Rattle.bits.specs.Sets.{Lane, LaneSet, laneCount, has}
+use Rattle.bits.specs.Number.{withField}
+use Rattle.bits.specs.Sets.{Lane, LaneSet, laneCount, has, maskOf}
+use Rattle.model.specs.Numbers.{FlagIndex, OnBits}
 use Rattle.model.specs.declared.lane.Settings.{Settings}
 use Rattle.model.specs.declared.lane.Verdict.{Verdict}
 use Rattle.model.specs.declared.lane.Verdict.the-variants.{Pass, Reject}
@@ -16,7 +20,7 @@ abbrev pub noSettings : Settings
 noSettings = record { config = 0; adaptive = 0; equalizer = 0; «cdr_tx» = 0; «cdr_rx» = 0; pre = 0; post = 0; amplitude = 0 }
 
 abbrev pub idleRecord : LaneRecord
-idleRecord = record { stage = Idle }
+idleRecord = record { stage = Idle; on = 0 }
 
 abbrev pub idleWorking : Working
 idleWorking = record { lanes = tab laneCount (λ l. idleRecord) }
@@ -28,6 +32,14 @@ recordAt w l = getD (w .lanes) l idleRecord
 
 abbrev pub stageAt : Working → Lane → Stage
 stageAt w l = recordAt w l .stage
+
+-- the flags of a lane that are on
+abbrev pub onAt : Working → Lane → OnBits
+onAt w l = recordAt w l .on
+
+-- the lanes on which a flag is on
+unfoldable pub onLanes : Working → FlagIndex → LaneSet
+onLanes w k = maskOf laneCount (λ l. has (onAt w l) k)
 
 unfoldable pub isInProgress : Stage → Bool
 isInProgress Idle = false
@@ -54,11 +66,25 @@ anyInProgress w c = anyBelow laneCount (λ m. both (c m) (isInProgress (stageAt 
 -- ---- replacing
 
 unfoldable pub withStage : LaneRecord → Stage → LaneRecord
-withStage r s = record { stage = s }
+withStage r s = record { stage = s; on = r .on }
+
+unfoldable pub withOn : LaneRecord → OnBits → LaneRecord
+withOn r bits = record { stage = r .stage; on = bits }
+
+abbrev pub withLanes : Working → List LaneRecord → Working
+withLanes w rs = record { lanes = rs }
 
 -- every lane's stage replaced
 unfoldable pub withStages : Working → (Lane → Stage) → Working
-withStages w f = record { lanes = tab laneCount (λ l. withStage (recordAt w l) (f l)) }
+withStages w f = withLanes w (tab laneCount (λ l. withStage (recordAt w l) (f l)))
+
+-- what is on replaced on every lane
+unfoldable pub withOns : Working → (Lane → OnBits) → Working
+withOns w f = withLanes w (tab laneCount (λ l. withOn (recordAt w l) (f l)))
+
+-- a flag among them that is on or not
+unfoldable pub withFlagOn : FlagIndex → Bool → OnBits → OnBits
+withFlagOn k isOn bits = withField bits k 1 (boolByte isOn)
 
 -- the group's lanes idle again
 unfoldable pub freedWorking : Working → LaneSet → Working

@@ -17,7 +17,7 @@ use Rattle.model.specs.Sound.{isSound}
 use Rattle.model.specs.declared.answer.Answer.{Answer}
 use Rattle.model.specs.declared.answer.Answer.the-variants.{Done, WrongLength, FlatMemory, Unsound, BadAccess, ShortBuffer, NothingOnLane, Busy, NoSuchTarget, BackToFront}
 use Rattle.model.specs.declared.event.Call.{Call}
-use Rattle.model.specs.declared.event.Call.the-variants.{Write, Read, Work, Hardware, Condition, Sample}
+use Rattle.model.specs.declared.event.Call.the-variants.{Write, Read, Work, Hardware, Condition, Sample, Lasting}
 
 pub record Refusal : Type 0 where
   pub answer : Answer
@@ -81,6 +81,7 @@ eventRefusals room s (Hardware l) =
     refuse NoSuchTarget (noSuchLane l) ∷ refuse Busy (isBusy s l) ∷ refuse NothingOnLane (isUnused s l) ∷ []
 eventRefusals room s (Condition flag mask) = refuse NoSuchTarget (not (isConditionFlag flag)) ∷ []
 eventRefusals room s (Sample l p) = refuse NoSuchTarget (noSuchLane l) ∷ []
+eventRefusals room s (Lasting flag on off) = refuse NoSuchTarget (not (isConditionFlag flag)) ∷ []
 
 -- asked of a list of events; room is the length of the answer buffer
 unfoldable pub listRefusals : Count → State → Count → List Refusal

@@ -1,4 +1,4 @@
--- Soundness, the five conditions (a) to (e), as a test (01, below the refusal list).
+-- Soundness, the six conditions (a) to (f), as a test (01, below the refusal list; 02 Req 02).
 use Prim.Native.Nat.{_^_}
 use mathlib.Core.Bool.{Bool, true, false, not}
 use mathlib.Core.List.{List}
@@ -9,10 +9,10 @@ use Rattle.bits.specs.Loop.{tab, allBelow}
 use Rattle.bits.specs.Place.{get}
 use Rattle.bits.specs.Sets.{Lane, LaneSet, laneCount, has, nextIn, firstIn, someIn, everyIn}
 use Rattle.model.specs.Numbers.{Code}
-use Rattle.model.specs.Map.{Image, stagedSet0, statusAt, pendingAt, settings, settingCount, settingWidths}
+use Rattle.model.specs.Map.{Image, stagedSet0, statusAt, pendingAt, flagAt, lastingCount, lastingFlag, settings, settingCount, settingWidths}
 use Rattle.model.specs.Statuses.{inProgress}
 use Rattle.model.specs.PathStates.{stateOf, resting}
-use Rattle.model.specs.Records.{stageAt, isInProgress, isPassing, heldIn}
+use Rattle.model.specs.Records.{stageAt, onAt, isInProgress, isPassing, heldIn}
 use Rattle.model.specs.State.{State}
 use Rattle.model.specs.View.{appSel, pathId, settingValues, View, viewOf, of, stateIn, applicationIn, isUsed, samePath, pathOf, fills}
 use Rattle.model.specs.Verdicts.{deactivated}
@@ -145,7 +145,13 @@ unfoldable pub groupFits : View → Working → Stage → Bool
 groupFits v w Idle = true
 groupFits v w (InProgress p) = passingFits v w (p .group) (p .verdict)
 
--- ---- sound: these five, no more
+-- ---- (f) a lane's on bits name only flags that can last, and a flag that is on is 1
+
+unfoldable pub onFits : Image → Working → Lane → Bool
+onFits x w l =
+    both (ltb (onAt w l) (2 ^ lastingCount)) (allBelow lastingCount (λ k. implies (has (onAt w l) k) (eqb (get x (flagAt (lastingFlag k) l)) 1)))
+
+-- ---- sound: these six, no more
 
 unfoldable pub laneSound : Image → View → Working → Lane → Bool
 laneSound x v w l =
@@ -153,4 +159,5 @@ laneSound x v w l =
     (both (implies (not (isPassing (stageAt w l))) (outsidePassing x v w l)) (groupFits v w (stageAt w l)))
 
 unfoldable pub isSound : State → Bool
-isSound s = allBelow laneCount (laneSound (s .image) (viewOf stagedSet0 (s .image)) (s .working))
+isSound s =
+    allBelow laneCount (λ l. both (laneSound (s .image) (viewOf stagedSet0 (s .image)) (s .working) l) (onFits (s .image) (s .working) l))

@@ -3,28 +3,52 @@ use mathlib.Core.List.{List, [], _∷_}
 use lib.ListN.{take}
 use Rattle.bits.specs.Choice.{pick}
 use Rattle.bits.specs.Sets.{LaneSet}
-use Rattle.model.specs.Numbers.{Bytes, Count, Index}
+use Rattle.model.specs.Numbers.{Bytes, Count, Index, Address}
 use Rattle.model.specs.Answers.{isDone}
 use Rattle.model.specs.State.{State, withImage}
 use Rattle.model.specs.Effect.{Effect, onState}
 use Rattle.model.specs.Work.{Mode, workEffect}
 use Rattle.model.specs.Hardware.{hardwareImage}
-use Rattle.model.specs.Flags.{conditionImage, sampledImage, settledImage}
+use Rattle.model.specs.Flags.{conditionImage, lastingState, sampledState, shownAgainImage, settledImage}
 use Rattle.model.specs.Pages.{indexOf}
 use Rattle.model.specs.Access.{bytesWrittenState, endedState, takenBytes, clearedImage}
 use Rattle.model.specs.Refusals.{firstOf, eventRefusals}
 use Rattle.model.specs.declared.answer.Answer.{Answer}
 use Rattle.model.specs.declared.event.Call.{Call}
-use Rattle.model.specs.declared.event.Call.the-variants.{Write, Read, Work, Hardware, Condition, Sample}
+use Rattle.model.specs.declared.event.Call.the-variants.{Write, Read, Work, Hardware, Condition, Sample, Lasting}
 use Rattle.model.specs.declared.event.Event.{Event}
 
 -- an event: a call, and the bytes that a write carries
 abbrev pub event : Call → Bytes → Event
 event call bytes = record { call = call; bytes = bytes }
 
--- n bytes read from index i on
+-- how many bytes a call reads, and from which address; none, and 0, where it is no read
+abbrev pub readCount : Call → Count
+readCount (Write address count) = 0
+readCount (Read address count) = count
+readCount (Work l) = 0
+readCount (Hardware l) = 0
+readCount (Condition flag mask) = 0
+readCount (Sample l p) = 0
+readCount (Lasting flag on off) = 0
+
+abbrev pub readAddress : Call → Address
+readAddress (Write address count) = 0
+readAddress (Read address count) = address
+readAddress (Work l) = 0
+readAddress (Hardware l) = 0
+readAddress (Condition flag mask) = 0
+readAddress (Sample l p) = 0
+readAddress (Lasting flag on off) = 0
+
+-- n bytes read from index i on: taken, then cleared, and then what is on shows again
 unfoldable pub readEffect : State → Index → Count → Effect
-readEffect s i n = record { state = withImage s (clearedImage (s .image) i n); bytes = takenBytes (s .image) i n; mask = 0 }
+readEffect s i n =
+    record {
+      state = withImage s (shownAgainImage (s .working) i n (clearedImage (s .image) i n));
+      bytes = takenBytes (s .image) i n;
+      mask = 0;
+    }
 
 -- what an event does that is not refused
 unfoldable pub eventEffect : Mode → State → Bytes → Call → Effect
@@ -33,7 +57,8 @@ eventEffect mode s bytes (Read address count) = readEffect s (indexOf (s .image)
 eventEffect mode s bytes (Work l) = workEffect mode s l
 eventEffect mode s bytes (Hardware l) = onState (withImage s (hardwareImage (s .image) l))
 eventEffect mode s bytes (Condition flag mask) = onState (withImage s (conditionImage flag mask (s .image)))
-eventEffect mode s bytes (Sample l p) = onState (withImage s (sampledImage l p (s .image)))
+eventEffect mode s bytes (Sample l p) = onState (sampledState l p s)
+eventEffect mode s bytes (Lasting flag on off) = onState (lastingState flag on off s)
 
 -- what a step gives
 pub record Stepped : Type 0 where

@@ -40,9 +40,10 @@ pub enum Stage {
     InProgress(Progress),
 }
 
-// What is kept of one lane beside its registers.
+// What is kept of one lane beside its registers: the stage of its Apply, and which of its flags that can last are on, a bit for each, the first lowest.
 pub struct LaneRecord {
     pub stage: Stage,
+    pub on: u16,
 }
 
 impl LaneRecord {
@@ -51,7 +52,10 @@ impl LaneRecord {
     fn idle() -> Self
         ensures { λ r. ⌜ r ≡ idleRecord ⌝ }
     {
-        LaneRecord { stage: Stage::Idle }
+        LaneRecord {
+            stage: Stage::Idle,
+            on: 0,
+        }
     }
 }
 

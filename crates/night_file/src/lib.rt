@@ -25,6 +25,10 @@ const SECOND_EDITION: u8 = 2;
 
 const SECOND_IMAGE_BYTES: usize = 896;
 
+const THIRD_EDITION: u8 = 3;
+
+const THIRD_IMAGE_BYTES: usize = 896;
+
 // The header: its two letters, and where its numbers and the image lie.
 const LETTER_W: u8 = 0x57;
 
@@ -69,6 +73,10 @@ fn edition_of(number: u8) -> Edition
         SECOND_EDITION => Edition {
             number: SECOND_EDITION,
             image_bytes: SECOND_IMAGE_BYTES,
+        },
+        THIRD_EDITION => Edition {
+            number: THIRD_EDITION,
+            image_bytes: THIRD_IMAGE_BYTES,
         },
         _ => Edition {
             number: FIRST_EDITION,
@@ -206,12 +214,16 @@ fn is_write(bytes: &[u8], tail: u64) -> bool
     tail < byte_limit(n - 1)
 }
 
-// Whether a condition's bytes behind those that it uses are zeros: it uses three in every edition.
+// Whether a condition's bytes behind those that it uses, in an edition, are zeros: from the third on it has an off mask.
 fn is_condition(bytes: &[u8], tail: u64, edition: u8) -> bool
     requires { ⌜ (recordLength ≤ length (now bytes)) × (tail ≡ tailOf (now bytes)) × (kindOf (now bytes) ≡ conditionKind) ⌝ }
     ensures { λ r. ⌜ r ≡ isRecord (editionAmong laterEditions edition) (now (bytes .entry)) ⌝ }
 {
-    is_clear_from_3(bytes, tail)
+    let fourth = bytes[3];
+    if edition == THIRD_EDITION {
+        return tail == 0;
+    }
+    (fourth == 0) & (tail == 0)
 }
 
 // Whether a record is of a kind that an edition lists, with zeros in the bytes that it does not use.
@@ -304,11 +316,18 @@ pub fn check(file: &[u8]) -> FileCheck
     FileCheck::Good(count)
 }
 
-// The call of a condition's record: one that comes once, in every edition.
+// The call of a condition's record, in an edition: it comes once in the first two, and lasts in the third.
 fn condition_call(bytes: &[u8], edition: u8) -> Call
     requires { ⌜ (recordLength ≤ length (now bytes)) × (kindOf (now bytes) ≡ conditionKind) ⌝ }
     ensures { λ r. ⌜ r ≡ callOf (editionAmong laterEditions edition .forms) (now (bytes .entry)) ⌝ }
 {
+    if edition == THIRD_EDITION {
+        return Call::Lasting {
+            flag: bytes[1],
+            on: bytes[2],
+            off: bytes[3],
+        };
+    }
     Call::Condition {
         flag: bytes[1],
         mask: bytes[2],

@@ -6,24 +6,14 @@ use lib.Dec.{eqb}
 use Rattle.bits.specs.Choice.{pick}
 use Rattle.model.specs.Map.{Image}
 use Rattle.model.specs.Answers.{number}
-use Rattle.model.specs.Step.{Stepped}
+use Rattle.model.specs.Step.{readCount, Stepped}
 use Rattle.model.specs.Outcome.{laidOver}
 use Rattle.model.specs.Text.{line}
 use Rattle.model.specs.declared.event.Call.{Call}
-use Rattle.model.specs.declared.event.Call.the-variants.{Write, Read, Work, Hardware, Condition, Sample}
 use Rattle.night_text.specs.Buffer.{Puts}
 use Rattle.night_lines.specs.declared.Reached.{Reached}
 
--- how many bytes a call shows that is done
-unfoldable pub readCount : Call → ℕ
-readCount (Write address count) = 0
-readCount (Read address count) = count
-readCount (Work l) = 0
-readCount (Hardware l) = 0
-readCount (Condition flag mask) = 0
-readCount (Sample l p) = 0
-
--- and with an answer's number
+-- how many bytes a call shows, by its answer's number
 unfoldable pub shownBy : ℕ → Call → ℕ
 shownBy answer call = pick (eqb answer 0) (readCount call) 0
 

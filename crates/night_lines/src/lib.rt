@@ -5,11 +5,11 @@ ghost use lib.Dec.{eqb};
 ghost use lib.ListN.{length};
 ghost use Rattle.bits.specs.Choice.{pick};
 ghost use Rattle.model.specs.Work.{early};
-ghost use Rattle.model.specs.Step.{step};
+ghost use Rattle.model.specs.Step.{readCount, step};
 ghost use Rattle.model.specs.State.{stateWith};
 ghost use Rattle.model.specs.Outcome.{listRoom};
 ghost use Rattle.model.specs.File.{laterEditions, editionAmong, eventOf, recordLength};
-ghost use Rattle.night_lines.specs.Lines.{readCount, Turns};
+ghost use Rattle.night_lines.specs.Lines.{Turns};
 ghost use Rattle.model.specs.Map.{imageLength};
 ghost use Rattle.model.specs.Text.{decimal};
 ghost use Rattle.night_text.specs.Buffer.{lineRoom};
@@ -37,6 +37,11 @@ fn read_count(call: Call) -> usize
         Call::Hardware { lane: _ } => 0,
         Call::Condition { flag: _, mask: _ } => 0,
         Call::Sample { lane: _, power: _ } => 0,
+        Call::Lasting {
+            flag: _,
+            on: _,
+            off: _,
+        } => 0,
     }
 }
 

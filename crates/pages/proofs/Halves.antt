@@ -31,3 +31,7 @@ unfolding halfEnd pick
 offset-fits a n h = split (ltb a halfLength)
     (λ t. let l : a + n ≤ halfLength = rw (t, pick) at h in let b : a < halfLength = ltb-true a halfLength t in omega arith)
     (λ f. let l : a + n ≤ 256 = rw (f, pick) at h in let b : halfLength ≤ a = ltb-false a halfLength f in omega arith)
+
+-- .. lie in the image
+pub index-fits : (x : Image) (a n : ℕ) → a < 256 → a + n ≤ halfEnd a → indexOf x a + n ≤ imageLength
+index-fits x a n b h = rw (← place-by x a b) (omega (arith, half-fits x a, offset-fits a n h))

@@ -2,7 +2,7 @@
 ghost use mathlib.Core.Path.{_≡_};
 ghost use lib.ListN.{length};
 ghost use Rattle.model.specs.Map.{imageLength};
-ghost use Rattle.model.specs.Pages.{pageStart, selectedStart, selectedImage};
+ghost use Rattle.model.specs.Pages.{pageStart, selectedStart, indexOf, selectedImage};
 ghost use Rattle.pages.specs.Halves.{halfStart};
 use model::page::PageStart;
 
@@ -56,6 +56,15 @@ pub fn half_start(image: &[u8], address: usize) -> usize
         return 0;
     }
     selected_start(image)
+}
+
+// The index in the image of an address that a host names.
+pub fn index_of(image: &[u8], address: u8) -> usize
+    requires { ⌜ length (now image) ≡ imageLength ⌝ }
+    ensures { λ r. ⌜ r ≡ indexOf (now (image .entry)) address ⌝ }
+{
+    let first = address as usize;
+    half_start(image, first) + first % map::PAGE_LENGTH
 }
 
 // A byte written to 127.

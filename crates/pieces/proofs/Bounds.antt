@@ -6,14 +6,13 @@ use native.Mathlib.Omega.{arith}
 use lib.Dec.{ltb}
 use lib.ListN.{length}
 use borrow.Author.Tests.{ltb-true, ltb-false}
-use Rattle.bits.proofs.Tests.{split}
+use Rattle.bits.proofs.Tests.{split, pick-has}
 use Rattle.model.specs.Map.{Image, imageLength}
 use Rattle.model.specs.Answers.{isDone}
 use Rattle.model.specs.Refusals.{firstOf}
 use Rattle.pieces_carried.specs.Carrying.{carriedBy}
 use Rattle.night_text.specs.Buffer.{longestLine}
 use Rattle.pieces_carried.specs.declared.Carried.{Carried}
-use Rattle.pieces_bytes.proofs.Keeping.{pick-has}
 use Rattle.pieces.specs.declared.Fed.{Fed}
 use Rattle.pieces.specs.Feeding.{FeedLeft, unchanged, leftAt, feedRefusals, feedLeftBy, feedLeft, atEnd, endLeft, IsFed}
 use Rattle.pieces.proofs.Joined.{feed-is-fed, feed-moves}

@@ -5,6 +5,7 @@ use native.Mathlib.Omega.{arith}
 use lib.Dec.{eqb, leb, ltb}
 use lib.ListN.{length, take}
 use Rattle.bits.specs.Choice.{both}
+use Rattle.bits.proofs.Tests.{pick-has}
 use Rattle.model.specs.Numbers.{Count, RecordIndex}
 use Rattle.model.specs.Map.{Image}
 use Rattle.model.specs.State.{State}
@@ -23,7 +24,6 @@ use Rattle.model.specs.declared.stream.Phase.the-variants.{InHeader, InImage, I
 use Rattle.night_text.proofs.Lines.{bad-most, number-lt, length-any-index}
 use Rattle.night_lines.proofs.ReadBytes.{line-fits}
 use Rattle.night_text.specs.Buffer.{longestLine}
-use Rattle.pieces_bytes.proofs.Keeping.{pick-has}
 
 record Fits (t : Took) : Type 0 where
   most : length (t .text) ≤ longestLine

@@ -1,6 +1,5 @@
 -- What is kept in code loses nothing, and fewer bytes are held than there is room for, whatever byte comes. Assumes nothing.
 use mathlib.Core.Path.{_≡_, refl, sym}
-use mathlib.Core.Bool.{Bool, true, false}
 use mathlib.Core.List.{List}
 use Prim.Native.Nat.{ℕ, suc, _-_, _<_}
 use native.Mathlib.Omega.{arith}
@@ -8,9 +7,8 @@ use lib.Dec.{ltb}
 use lib.ListN.{length, take}
 use lib.Seq.{take-at}
 use borrow.Author.Tests.{lt-ltb, ltb-true}
-use Rattle.bits.specs.Choice.{pick}
 use Rattle.bits.specs.Loop.{tab}
-use Rattle.bits.proofs.Tests.{pick-true}
+use Rattle.bits.proofs.Tests.{pick-true, pick-has}
 use Rattle.model.specs.Map.{Image}
 use Rattle.model.specs.Answers.{isDone}
 use Rattle.model.specs.Refusals.{firstOf, startRefusals}
@@ -39,12 +37,6 @@ module _ (m : stream.Carried) (short : length (m .held) < heldRoom) where
   unfolding carriedBy kept
   kept-tidy =
       λ i. record { phase = m .phase; edition = m .edition; held = padded (sym kept-held i); count = length (sym kept-held i); working = m .state .working }
-
--- what both have, the one that is picked has
-pub pick-has : {A : Type 0} (P : A → Type 0) (b : Bool) {x y : A} → (b ≡ true → P x) → (b ≡ false → P y) → P (pick b x y)
-unfolding pick
-pick-has P true f g = f refl
-pick-has P false f g = g refl
 
 -- ---- fewer bytes are held than there is room for
 

@@ -7,7 +7,6 @@ use lib.ListN.{length, set, take, drop, length-append, length-take}
 use lib.Seq.{length-take-le, take-append-le, set-at, append-snoc}
 use borrow.Author.Tests.{ltb-true, le-ltb}
 use lib.Dec.{ltb}
-use Rattle.bits.specs.Choice.{pick}
 use Rattle.bits.specs.Loop.{tab}
 use Rattle.bits.proofs.Tests.{split, pick-true, pick-false}
 use Rattle.bits.proofs.Loops.{length-tab}

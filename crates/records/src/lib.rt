@@ -1,8 +1,9 @@
 // The lanes' records: everything that looks into one or replaces one.
 ghost use mathlib.Core.Path.{_≡_};
 ghost use Prim.Native.Nat.{_<_};
-ghost use Rattle.bits.specs.Sets.{maskOf, laneCount};
-ghost use Rattle.model.specs.Records.{stageAt, isInProgress, isPass, isPassing, heldIn, withStage, withVerdict, freedWorking, advancedWorking};
+ghost use Rattle.bits.specs.Sets.{has, maskOf, laneCount};
+ghost use Rattle.model.specs.Map.{lastingCount};
+ghost use Rattle.model.specs.Records.{stageAt, onAt, isInProgress, isPass, isPassing, heldIn, withStage, withVerdict, freedWorking, advancedWorking};
 ghost use Rattle.model.specs.Work.{isRelease};
 use model::lane::LaneRecord;
 use model::lane::Progress;
@@ -20,6 +21,23 @@ pub fn stage_at(w: Working, lane: u8) -> Stage
     let record = w.lanes[i];
     let stage = record.stage;
     stage
+}
+
+// The flags of a lane that are on, a bit for each.
+pub fn on_at(w: Working, lane: u8) -> u16
+    requires { ⌜ lane < laneCount ⌝ }
+    ensures { λ r. ⌜ r ≡ onAt w lane ⌝ }
+{
+    let i = lane as usize;
+    w.lanes[i].on
+}
+
+// Whether a flag is among those that are on.
+pub fn is_on(on: u16, flag: u8) -> bool
+    requires { ⌜ flag < lastingCount ⌝ }
+    ensures { λ r. ⌜ r ≡ has on flag ⌝ }
+{
+    (on as u32) / bits::pow2(flag) % 2 == 1
 }
 
 // Whether an Apply is under way.
@@ -112,7 +130,7 @@ pub fn is_release(w: Working, group: u8) -> bool
 pub fn with_stage(r: LaneRecord, stage: Stage) -> LaneRecord
     ensures { λ q. ⌜ q ≡ withStage r stage ⌝ }
 {
-    LaneRecord { stage }
+    LaneRecord { stage, on: r.on }
 }
 
 // The stage with another verdict; an idle one stays.

@@ -1,16 +1,21 @@
 -- The conditions of soundness as the code asks them of one lane. Assumes nothing.
-use mathlib.Core.Path.{_≡_, refl, ap, _∙_, ap₂}
+use mathlib.Core.Path.{_≡_, refl, sym, ap, _∙_, ap₂}
 use mathlib.Core.Bool.{Bool, true, false, not, _&&_, _||_}
-use lib.Dec.{eqb, leb}
+use lib.Dec.{eqb, leb, ltb}
 use Rattle.bits.specs.Choice.{both, implies, same}
-use Rattle.bits.proofs.Tests.{and-both}
+use Rattle.bits.specs.Loop.{allBelow}
+use Rattle.bits.proofs.Tests.{both-i, implies-i, and-both, clash}
+use Rattle.bits.proofs.Loops.{all-intro}
+use Rattle.bits.proofs.Sets.{has-zero}
 use Rattle.model.specs.View.{viewOf, statesOf, of, settingsOf, applicationsOf, isUsed, samePath, pathOf}
-use Rattle.model.specs.Sound.{agreeOnState, isAtRest, makePath, inWholePath, outsidePassing, statusTells, stageFits, groupFits, laneSound}
-use Prim.Native.Nat.{ℕ, _<_}
+use Rattle.model.specs.Sound.{agreeOnState, isAtRest, makePath, inWholePath, outsidePassing, statusTells, stageFits, groupFits, laneSound, onFits}
+use Prim.Native.Nat.{ℕ, _^_, _<_}
+use Rattle.bits.specs.Lane.{laneField}
 use Rattle.bits.specs.Place.{get}
 use Rattle.bits.specs.Sets.{has}
-use Rattle.model.specs.Map.{Image, activeSet, stagedSet0, stateAt, pendingAt}
-use Rattle.model.specs.Records.{stageAt, idleWorking, isPassing}
+use Rattle.model.specs.Map.{Image, activeSet, stagedSet0, stateAt, pendingAt, flagAt, lastingCount, lastingFlag, page11}
+use Rattle.model.specs.Map as map
+use Rattle.model.specs.Records.{stageAt, onAt, idleWorking, isPassing}
 use Rattle.model.specs.declared.lane.Working.{Working}
 use Rattle.view_paths.proofs.Lanes.{state-at}
 use Rattle.model.specs.declared.lane.Stage.{Stage}
@@ -76,3 +81,21 @@ pub lane-sound-by : (x : Image) (w : Working) (l : ℕ) (s : Stage) (a b p o g :
     → ((a && b) && ((p || o) && g)) ≡ laneSound x (viewOf stagedSet0 x) w l
 unfolding laneSound outsidePassing
 lane-sound-by x w l s a b p o g es ea eb ep eo eg = rw (← es, ← ea, ← eb, ← ep, ← eg) (lane-by a b p o g ∙ ap (λ t. both (both a b) (both (implies (not p) t) g)) eo)
+
+-- (f) of one flag
+pub flag-by : (x : Image) (k l flag at bit : ℕ) → flag ≡ lastingFlag k → at ≡ map.on page11 flag → bit ≡ get x (laneField at 1 l)
+    → eqb bit 1 ≡ eqb (get x (flagAt (lastingFlag k) l)) 1
+flag-by x k l flag at bit e p q = ap (λ b. eqb b 1) (q ∙ ap (λ a. get x (laneField a 1 l)) (p ∙ ap (map.on page11) e))
+
+-- .. of a lane with nothing on, and of any other
+pub nothing-on : (x : Image) (w : Working) (l on : ℕ) → on ≡ onAt w l → on ≡ 0 → true ≡ onFits x w l
+unfolding onFits
+nothing-on x w l on e z =
+    let off : onAt w l ≡ 0 = sym e ∙ z in
+    rw off (sym (both-i refl (all-intro lastingCount _ (λ k b. implies-i _ _ (λ t. absurd (clash t (has-zero k)))))))
+
+pub some-on : (x : Image) (w : Working) (l on : ℕ) (r : Bool) → on ≡ onAt w l
+    → r ≡ allBelow lastingCount (λ k. implies (has on k) (eqb (get x (flagAt (lastingFlag k) l)) 1))
+    → (ltb on (2 ^ lastingCount) && r) ≡ onFits x w l
+unfolding onFits
+some-on x w l on r e h = rw (← e) (and-both _ r ∙ ap (both (ltb on (2 ^ lastingCount))) h)

@@ -1,17 +1,24 @@
-// Soundness: the test of document 01's conditions (a) to (e) over an image and the lanes' records.
+// Soundness: the test of document 01's conditions (a) to (f) over an image and the lanes' records.
 ghost use mathlib.Core.Path.{_≡_};
 ghost use Prim.Native.Nat.{_<_};
+ghost use lib.Dec.{eqb};
 ghost use lib.ListN.{length};
-ghost use Rattle.model.specs.Map.{stagedSet0, imageLength};
+ghost use Rattle.bits.specs.Choice.{implies};
+ghost use Rattle.bits.specs.Loop.{allBelow};
+ghost use Rattle.bits.specs.Place.{get};
+ghost use Rattle.bits.specs.Sets.{has, laneCount};
+ghost use Rattle.model.specs.Map.{stagedSet0, flagAt, lastingCount, lastingFlag, imageLength};
 ghost use Rattle.model.specs.Records.{idleWorking};
 ghost use Rattle.model.specs.View.{viewOf};
-ghost use Rattle.model.specs.Sound.{statusTells, inWholePath, isAtRest, outsidePassing, laneSound, isSound};
-ghost use Rattle.bits.specs.Sets.{laneCount};
+ghost use Rattle.model.specs.Sound.{statusTells, inWholePath, isAtRest, outsidePassing, laneSound, onFits, isSound};
 use map::ACTIVE_SET;
 use model::lane::LaneRecord;
 use model::lane::Working;
 use model::path::PathState;
 use model::status::Status;
+
+// The end of the numbers that have a bit for each flag that can last.
+const ON_END: u16 = 1 << map::LASTING_COUNT;
 
 // (a) ConfigStatus says in progress exactly where the lane's record does.
 fn status_tells(image: &[u8], w: Working, lane: u8) -> bool
@@ -68,6 +75,32 @@ fn is_lane_sound(image: &[u8], w: Working, lane: u8) -> bool
     told & (outside & sound_passing::group_fits(image, w, stage))
 }
 
+// Each of a lane's flags that is on is 1.
+fn are_raised(image: &[u8], on: u16, lane: u8) -> bool
+    requires { ⌜ (length (now image) ≡ imageLength) × (lane < laneCount) ⌝ }
+    ensures { λ r. ⌜ r ≡ allBelow lastingCount (λ k. implies (has on k) (eqb (get (now (image .entry)) (flagAt (lastingFlag k) lane)) 1)) ⌝ }
+{
+    let mut all = true;
+    for k in 0..map::LASTING_COUNT {
+        let flag = map::lasting_flag(k);
+        let raised = bits_lanes::lane_bit(image, map::on(map::PAGE_11, flag), lane) == 1;
+        all = all & (!records::is_on(on, k) | raised);
+    }
+    all
+}
+
+// (f) what is on of a lane are flags that can last, and they are 1.
+fn on_fits(image: &[u8], w: Working, lane: u8) -> bool
+    requires { ⌜ (length (now image) ≡ imageLength) × (lane < laneCount) ⌝ }
+    ensures { λ r. ⌜ r ≡ onFits (now (image .entry)) w lane ⌝ }
+{
+    let on = records::on_at(w, lane);
+    if on == 0 {
+        return true;
+    }
+    (on < ON_END) & are_raised(image, on, lane)
+}
+
 // Whether a state is sound.
 pub fn is_sound(image: &[u8], w: Working) -> bool
     requires { ⌜ length (now image) ≡ imageLength ⌝ }
@@ -75,7 +108,7 @@ pub fn is_sound(image: &[u8], w: Working) -> bool
 {
     let mut all = true;
     for lane in 0..LaneRecord::COUNT {
-        all = all & is_lane_sound(image, w, lane);
+        all = all & (is_lane_sound(image, w, lane) & on_fits(image, w, lane));
     }
     all
 }

@@ -26,5 +26,6 @@ pub fn step(image: &mut [u8], w: Working, event: Event, buffer: &mut [u8]) -> Re
         Call::Hardware { lane } => step_module::hardware(image, w, lane),
         Call::Condition { flag, mask } => step_module::condition(image, w, flag, mask),
         Call::Sample { lane, power } => step_module::sample(image, w, lane, power),
+        Call::Lasting { flag, on, off } => step_module::lasting(image, w, flag, on, off),
     }
 }

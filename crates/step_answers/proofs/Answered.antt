@@ -16,7 +16,7 @@ use Rattle.model.specs.Flags.{isConditionFlag}
 use Rattle.model.specs.Access.{isBadAccess, writeLimit, readLimit}
 use Rattle.model.specs.Refusals.{firstOf, noSuchLane, isBusy, isUnused, eventRefusals}
 use Rattle.model.specs.declared.answer.Answer.the-variants.{Done, BadAccess, ShortBuffer, NothingOnLane, Busy, NoSuchTarget}
-use Rattle.model.specs.declared.event.Call.the-variants.{Write, Read, Work, Hardware, Condition, Sample}
+use Rattle.model.specs.declared.event.Call.the-variants.{Write, Read, Work, Hardware, Condition, Sample, Lasting}
 use Rattle.model.specs.declared.lane.Stage.{Stage}
 use Rattle.model.specs.declared.lane.Working.{Working}
 use Rattle.model.proofs.Refused.{first-here, first-next, first-none}
@@ -91,6 +91,15 @@ module _ (room : ℕ) (s : State) where
   pub condition-done : (flag mask : ℕ) → isConditionFlag flag ≡ true → firstOf (eventRefusals room s (Condition flag mask)) ≡ Done
   unfolding eventRefusals
   condition-done flag mask e = first-next _ _ _ (ap not e) ∙ first-none
+
+  -- a lasting condition: 8
+  pub lasting-nowhere : (flag on off : ℕ) → isConditionFlag flag ≡ false → firstOf (eventRefusals room s (Lasting flag on off)) ≡ NoSuchTarget
+  unfolding eventRefusals
+  lasting-nowhere flag on off e = first-here _ _ _ (ap not e)
+
+  pub lasting-done : (flag on off : ℕ) → isConditionFlag flag ≡ true → firstOf (eventRefusals room s (Lasting flag on off)) ≡ Done
+  unfolding eventRefusals
+  lasting-done flag on off e = first-next _ _ _ (ap not e) ∙ first-none
 
   -- a write: 4
   pub write-bad : (address count : ℕ) → isBadAccess writeLimit address count ≡ true → firstOf (eventRefusals room s (Write address count)) ≡ BadAccess

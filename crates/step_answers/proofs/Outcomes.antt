@@ -16,7 +16,7 @@ use Rattle.model.specs.Work.{early, closingEffect, workEffectBy, workEffectOn, 
 use Rattle.model.specs.Flags.{settledImage}
 use Rattle.model.specs.Refusals.{firstOf, eventRefusals}
 use Rattle.model.specs.Step.{eventEffect, doneStep, refusedStep, answeredStep, step}
-use Rattle.contracts.specs.Contracts.{IsOutcome}
+use Rattle.contracts.specs.Contracts.{IsState, IsOutcome}
 use Rattle.model.specs.Outcome.{laidOver, stepOutcome}
 use Rattle.model.specs.declared.answer.Answer.{Answer}
 use Rattle.model.specs.declared.answer.Answer.the-variants.{Done}
@@ -27,6 +27,7 @@ use Rattle.model.specs.declared.lane.Stage.{Stage}
 use Rattle.model.specs.declared.lane.Stage.the-variants.{Idle, InProgress}
 use Rattle.model.specs.declared.lane.Trigger.{Trigger}
 use Rattle.model.specs.declared.lane.Verdict.{Verdict}
+use Rattle.model.specs.declared.lane.Working.{Working}
 use Rattle.model.specs.declared.lane.Verdict.the-variants.{Pass, Reject}
 
 module _ (room : ℕ) (s : State) (e : Event) (buffer : List ℕ) where
@@ -61,6 +62,14 @@ module _ (room : ℕ) (s : State) (e : Event) (buffer : List ℕ) where
   unfolding laidOver
   image-leaves v y z r p q hy hz h =
       done-leaves (onState (withImage s v)) r y z buffer p (sym q) (ap (λ t. t .answer) h) hy hz (ap (λ t. t .working) h) refl (ap (λ t. t .mask) h)
+
+  -- .. one that changes the records too
+  pub state-leaves : (t : State) (w : Working) (y z : Image) (r : Returned) → firstOf (eventRefusals room s (e .call)) ≡ Done
+      → eventEffect early s (e .bytes) (e .call) ≡ onState t → IsState t y w → z ≡ settledImage y
+      → r ≡ record { answer = Done; mask = 0; working = w } → IsOutcome (stepOutcome (step early room s e) buffer) r z buffer
+  unfolding laidOver
+  state-leaves t w y z r p q l hz h =
+      done-leaves (onState t) r y z buffer p (sym q) (ap (λ a. a .answer) h) (l .image) hz (ap (λ a. a .working) h ∙ l .working) refl (ap (λ a. a .mask) h)
 
 -- a work step reads nothing
 by-reads-nothing : (d : Verdict) (s : State) (g : ℕ) (t : Trigger) → workEffectBy d early s g t .bytes ≡ []

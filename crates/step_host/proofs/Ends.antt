@@ -1,5 +1,5 @@
--- The end of an access: after the bytes of a write, and after a read, which writes none. Assumes nothing.
-use mathlib.Core.Path.{_≡_, ap}
+-- The end of an access: after the bytes of a write, and after a read, which writes none and shows again what is on. Assumes nothing.
+use mathlib.Core.Path.{_≡_, ap, ap₂, _∙_}
 use mathlib.Core.Bool.{true}
 use Prim.Native.Nat.{ℕ, _+_}
 use native.Mathlib.Omega.{arith}
@@ -7,11 +7,14 @@ use borrow.Author.Tests.{leb-true, ltb-true}
 use Rattle.bits.specs.Choice.{onlyIf}
 use Rattle.bits.proofs.Tests.{split, both-l, both-r}
 use Rattle.model.specs.Map.{Image, runAddress}
-use Rattle.model.specs.State.{State}
+use Rattle.model.specs.State.{State, stateWith}
 use Rattle.model.specs.declared.lane.Working.{Working}
-use Rattle.model.specs.Flags.{settledImage}
+use Rattle.model.specs.Flags.{shownAgainImage, settledImage}
+use Rattle.model.specs.Pages.{indexOf}
 use Rattle.model.specs.Commands.{commandImage}
-use Rattle.model.specs.Access.{writes, runsCommand, endedState}
+use Rattle.model.specs.Access.{writes, runsCommand, endedState, clearedImage}
+use Rattle.model.specs.Step.{readEffect}
+use Rattle.step_host.proofs.Elsewhere.{index-kept}
 
 -- what a write leaves, at what its bytes have left
 pub write-ended : (address n : ℕ) (s : State) (x : Image) → x ≡ s .image → onlyIf (runsCommand address n x) commandImage x ≡ endedState address n s .image
@@ -34,3 +37,9 @@ unfolding onlyIf
 read-ended address x z e = split (runsCommand address 0 x)
     (λ r. absurd (nothing-runs address x r))
     (λ r. rw (r, onlyIf) at e)
+
+-- what a read leaves before its end
+pub read-shown : (w : Working) (x y z : Image) (a n : ℕ) → y ≡ clearedImage x (indexOf x a) n → z ≡ shownAgainImage w (indexOf y a) n y
+    → z ≡ readEffect (stateWith x w) (indexOf x a) n .state .image
+unfolding readEffect
+read-shown w x y z a n q h = h ∙ ap₂ (λ i t. shownAgainImage w i n t) (ap (λ t. indexOf t a) q ∙ index-kept x _ n a) q

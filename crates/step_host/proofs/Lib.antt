@@ -1,2 +1,3 @@
--- The end of an access.
+-- Reads of other addresses, and the end of an access.
+pub mod Elsewhere
 pub mod Ends

@@ -1,4 +1,4 @@
-// The host's accesses, on a module whose image has its length: the refusals 4 and 5, then the access and the command that it runs, then lower 3.0.
+// The host's accesses, on a module whose image has its length: the refusals 4 and 5, then the access, the command that it runs or what is on and shows again, then lower 3.0.
 ghost use mathlib.Core.Path.{_≡_};
 ghost use mathlib.Core.List.{[]};
 ghost use Prim.Native.Nat.{_+_, _≤_};
@@ -8,7 +8,8 @@ ghost use Rattle.contracts.specs.Contracts.{IsState, IsOutcome};
 ghost use Rattle.step_host.specs.Settled.{settledState};
 ghost use Rattle.model.specs.Access.{bytesWrittenState, runsCommand, endedState, halfEnd};
 ghost use Rattle.model.specs.Commands.{commandImage};
-ghost use Rattle.model.specs.Flags.{settledImage};
+ghost use Rattle.model.specs.Flags.{shownAgainImage, settledImage};
+ghost use Rattle.model.specs.Pages.{indexOf};
 ghost use Rattle.model.specs.State.{stateWith};
 ghost use Rattle.model.specs.Outcome.{stepOutcome};
 ghost use Rattle.model.specs.Step.{event, step};
@@ -19,6 +20,9 @@ ghost use Rattle.model.specs.Map.{imageLength};
 use contracts::Returned;
 use model::answer::Answer;
 use model::lane::Working;
+
+// The last flag that can last.
+const LAST_LASTING: u8 = map::LATER_LASTING + map::LASTING_COUNT - 1;
 
 // The end of an access that has written so many bytes from an address on, none where it was a read: the command that it runs, then lower 3.0.
 fn end_access(image: &mut [u8], address: u8, written: usize)
@@ -52,6 +56,17 @@ pub fn write(image: &mut [u8], w: Working, address: u8, count: u8, bytes: [u8; 8
     contracts::reply(Answer::Done, written)
 }
 
+// Of n bytes read from an address on, the flags that are on show again. A read of other addresses asks for no index.
+fn show_flags(image: &mut [u8], w: Working, address: u8, n: usize)
+    requires { ⌜ (length (now image) ≡ imageLength) × (address + n ≤ halfEnd address) ⌝ }
+    ensures { λ _. ⌜ now (image .exit) ≡ shownAgainImage w (indexOf (now (image .entry)) address) n (now (image .entry)) ⌝ }
+{
+    if (address <= LAST_LASTING) & ((map::FIRST_LASTING as usize) < (address as usize) + n) {
+        let i = pages::index_of(image, address);
+        flags_lasting::show_again(image, w, i, n);
+    }
+}
+
 // A host read of count bytes into the front of a buffer.
 pub fn read(image: &mut [u8], w: Working, address: u8, count: u8, buffer: &mut [u8]) -> Returned
     requires { ⌜ length (now image) ≡ imageLength ⌝ }
@@ -65,6 +80,7 @@ pub fn read(image: &mut [u8], w: Working, address: u8, count: u8, buffer: &mut [
         return contracts::reply(Answer::ShortBuffer, w);
     }
     access_reads::read(image, address, count, buffer);
+    show_flags(image, w, address, n);
     end_access(image, address, 0);
     contracts::reply(Answer::Done, w)
 }

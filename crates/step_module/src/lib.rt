@@ -9,7 +9,7 @@ ghost use Rattle.model.specs.Outcome.{stepOutcome};
 ghost use Rattle.model.specs.Refusals.{isBusy};
 ghost use Rattle.model.specs.Step.{step};
 ghost use Rattle.model.specs.Work.{early};
-ghost use Rattle.model.specs.declared.event.Call.the-variants.{Work, Hardware, Condition, Sample};
+ghost use Rattle.model.specs.declared.event.Call.the-variants.{Work, Hardware, Condition, Sample, Lasting};
 ghost use Rattle.contracts.specs.Asked.{asked};
 ghost use Rattle.model.specs.Map.{imageLength};
 ghost use Rattle.bits.specs.Sets.{laneCount};
@@ -68,7 +68,7 @@ pub fn hardware(image: &mut [u8], w: Working, lane: u8) -> Returned
     contracts::reply(Answer::Done, w)
 }
 
-// A condition that sets bits of a flag byte.
+// A condition that comes once, and sets bits of a flag byte.
 pub fn condition(image: &mut [u8], w: Working, flag: u8, mask: u8) -> Returned
     requires { ⌜ length (now image) ≡ imageLength ⌝ }
     ensures { λ r. ⌜ IsOutcome (stepOutcome (step early 0 (stateWith (now (image .entry)) w) (asked (Condition flag mask))) []) r (now (image .exit)) [] ⌝ }
@@ -81,6 +81,19 @@ pub fn condition(image: &mut [u8], w: Working, flag: u8, mask: u8) -> Returned
     contracts::reply(Answer::Done, w)
 }
 
+// A condition that lasts: it begins on some lanes and ends on others.
+pub fn lasting(image: &mut [u8], w: Working, flag: u8, on: u8, off: u8) -> Returned
+    requires { ⌜ length (now image) ≡ imageLength ⌝ }
+    ensures { λ r. ⌜ IsOutcome (stepOutcome (step early 0 (stateWith (now (image .entry)) w) (asked (Lasting flag on off))) []) r (now (image .exit)) [] ⌝ }
+{
+    if !flags::is_condition_flag(flag) {
+        return contracts::reply(Answer::NoSuchTarget, w);
+    }
+    let working = flags_lasting::condition(image, w, flag, on, off);
+    flags_interrupt::settle(image);
+    contracts::reply(Answer::Done, working)
+}
+
 // A sample of a lane's received power.
 pub fn sample(image: &mut [u8], w: Working, lane: u8, power: u16) -> Returned
     requires { ⌜ length (now image) ≡ imageLength ⌝ }
@@ -89,7 +102,7 @@ pub fn sample(image: &mut [u8], w: Working, lane: u8, power: u16) -> Returned
     if LaneRecord::COUNT <= lane {
         return contracts::reply(Answer::NoSuchTarget, w);
     }
-    flags::sample(image, lane, power);
+    let working = flags_lasting::sample(image, w, lane, power);
     flags_interrupt::settle(image);
-    contracts::reply(Answer::Done, w)
+    contracts::reply(Answer::Done, working)
 }

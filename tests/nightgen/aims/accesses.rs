@@ -18,6 +18,8 @@ impl Maker {
     pub(super) fn look(&mut self) -> Event {
         let (page, address, count) = if self.wild && self.rng.percent(8) {
             self.command_registers()
+        } else if self.wild && self.rng.percent(12) {
+            self.flag_registers()
         } else {
             self.usual_registers()
         };
@@ -53,6 +55,20 @@ impl Maker {
             14 if self.rng.percent(30) => (self.rng.pick(&[0x00, 0x01, 0x02, 0x10, 0x11]), 128, 128),
             14 => (0, 3, 8),
             _ => (0, self.rng.pick(&[0, 3, 8, 9, 31, 86, 120, 126]), 1 + self.rng.byte() % 2),
+        }
+    }
+
+    /// A part of the flag bytes, at its edges or anywhere.
+    fn flag_registers(&mut self) -> (u8, u8, u8) {
+        match self.rng.below(5) {
+            0 => (0x11, 135, 4),
+            1 => (0x11, 147, 2),
+            2 => (0x11, 149, 4),
+            3 => (0x11, 134 + self.rng.byte() % 20, 1),
+            _ => {
+                let address = 130 + self.rng.byte() % 24;
+                (0x11, address, 2 + self.rng.byte() % 20)
+            }
         }
     }
 

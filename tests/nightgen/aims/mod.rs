@@ -13,6 +13,14 @@ use second::module::Event;
 use second::registers::IMAGE_LEN;
 use std::collections::VecDeque;
 
+/// Which of the two condition events there are. A file has one of them.
+#[derive(Clone, Copy)]
+pub enum Conditions {
+    OneTime,
+    Lasting,
+    Both,
+}
+
 /// Makes a night's events, looking at the state they lead to.
 pub struct Maker {
     rng: Rng,
@@ -21,6 +29,7 @@ pub struct Maker {
     errand: VecDeque<Event>,
     /// Whether odd and wrong records are mixed in.
     wild: bool,
+    conditions: Conditions,
     /// What is wrong with the last message that was decided on, if it is one
     /// byte alone.
     pub slip: Option<Slip>,
@@ -28,13 +37,18 @@ pub struct Maker {
 
 impl Maker {
     /// A maker of the events of a night that begins with this image.
-    pub fn new(mut rng: Rng, image: &[u8; IMAGE_LEN], wild: bool) -> Maker {
-        Maker::from(Rng(rng.next()), State::start(image), wild)
+    pub fn new(
+        mut rng: Rng,
+        image: &[u8; IMAGE_LEN],
+        wild: bool,
+        conditions: Conditions,
+    ) -> Maker {
+        Maker::from(Rng(rng.next()), State::start(image), wild, conditions)
     }
 
     /// A maker that goes on from any state.
-    pub fn from(rng: Rng, state: State, wild: bool) -> Maker {
-        Maker { rng, state, errand: VecDeque::new(), wild, slip: None }
+    pub fn from(rng: Rng, state: State, wild: bool, conditions: Conditions) -> Maker {
+        Maker { rng, state, errand: VecDeque::new(), wild, conditions, slip: None }
     }
 
     pub fn next(&mut self) -> Event {

@@ -44,6 +44,7 @@ impl Coverage {
             }) {
                 self.hit("triggers", "group marked while another lane of its path is in progress");
             }
+            self.look_at_lasting_group(before, group);
             let (code, reason) = judge(before, trigger, group);
             self.hit("verdicts fixed by a trigger", reason);
             self.look_at_application(before, first, code, reason);

@@ -3,10 +3,12 @@
 mod accesses;
 mod applies;
 mod commands;
+mod lasting;
 mod paths;
 mod signals;
 mod wanted;
 
+use self::lasting::Watch;
 use self::wanted::WANTED;
 use crate::aims::Slip;
 use crate::messages::runs_command;
@@ -22,6 +24,7 @@ use std::io::{self, Write};
 pub struct Coverage {
     counts: BTreeMap<(&'static str, &'static str), u64>,
     records: u64,
+    watch: Watch,
 }
 
 impl Coverage {
@@ -56,20 +59,24 @@ impl Coverage {
 
     /// Looks at a night as a file of an edition.
     pub fn look_at_edition(&mut self, edition: Edition, made: &Made) {
-        let longest = made.events.len() == 5000;
-        if edition.number == 1 {
-            self.hit("nights", "edition 1");
-            if longest {
-                self.hit("nights", "edition 1 of 5000 records");
-            }
-        } else {
-            self.hit("nights", "edition 2");
-            if longest {
-                self.hit("nights", "edition 2 of 5000 records");
-            }
-            if made.image[P9F + 128..].iter().any(|&byte| byte != 0) {
-                self.hit("nights", "edition 2 with bytes on 9Fh that start clears");
-            }
+        const NAMES: [[&str; 3]; 3] = [
+            ["edition 1", "edition 1 of 5000 records", "edition 1 with bytes on 9Fh left out"],
+            [
+                "edition 2", "edition 2 of 5000 records",
+                "edition 2 with bytes on 9Fh that start clears",
+            ],
+            [
+                "edition 3", "edition 3 of 5000 records",
+                "edition 3 with bytes on 9Fh that start clears",
+            ],
+        ];
+        let [every, longest, on_9fh] = NAMES[edition.number as usize - 1];
+        self.hit("nights", every);
+        if made.events.len() == 5000 {
+            self.hit("nights", longest);
+        }
+        if made.image[P9F + 128..].iter().any(|&byte| byte != 0) {
+            self.hit("nights", on_9fh);
         }
     }
 
@@ -163,6 +170,14 @@ impl Coverage {
                     }
                 }
             }
+            Event::LastingCondition { flag_byte, .. } => self.hit("answers", match flag_byte {
+                _ if done => "0 lasting condition",
+                134 => "8 lasting condition on 134",
+                139..=146 => "8 lasting condition on 139 to 146",
+                149..=152 => "8 lasting condition on 149 to 152",
+                153 => "8 lasting condition on 153",
+                _ => "8 lasting condition on a byte that is no flag",
+            }),
             Event::Sample { value, .. } => {
                 self.hit("answers", if done { "0 sample" } else { "8 sample" });
                 if done {
@@ -173,6 +188,7 @@ impl Coverage {
         if done {
             self.look_at_interrupt(before, event, after);
             self.look_at_command_mask(before, event, after);
+            self.look_at_lasting(before, event, after);
         }
     }
 }

@@ -14,6 +14,9 @@ pub const WANTED: &[(&str, &[&str])] = &[
             "7 hardware on a used lane in progress", "7 hardware on an unused lane in progress",
             "7 hardware on an idle lane whose path is in progress",
             "8 work", "8 hardware", "8 condition", "8 sample",
+            "0 lasting condition", "8 lasting condition on 134", "8 lasting condition on 139 to 146",
+            "8 lasting condition on 149 to 152", "8 lasting condition on 153",
+            "8 lasting condition on a byte that is no flag",
         ],
     ),
     (
@@ -184,6 +187,70 @@ pub const WANTED: &[(&str, &[&str])] = &[
         ],
     ),
     (
+        "lasting conditions",
+        &[
+            "135 begins", "136 begins", "137 begins", "138 begins", "147 begins", "148 begins",
+            "135 ends", "136 ends", "137 ends", "138 ends", "147 ends", "148 ends", "on mask alone",
+            "off mask alone", "neither mask", "both masks, with lanes in common",
+            "both masks, no lane in common", "in the on mask: goes on",
+            "in the off mask: was not on", "in both masks: begins", "in both masks: goes on",
+            "in neither mask: goes on", "begins on a flag that is up", "on for all eight lanes",
+            "ends before its flag is read", "ends after its flag is read",
+            "begins on a lane in progress", "ends on a lane in progress",
+        ],
+    ),
+    (
+        "received power that lasts",
+        &[
+            "high alarm begins", "high alarm goes on", "high alarm changes to a low one",
+            "high alarm ends", "low alarm begins", "low alarm goes on",
+            "low alarm changes to a high one", "low alarm ends", "high warning begins",
+            "high warning goes on", "high warning changes to a low one", "high warning ends",
+            "low warning begins", "low warning goes on", "low warning changes to a high one",
+            "low warning ends", "another lane's goes on",
+            "first sample of a lane, inside its limits", "ends before its flag is read",
+            "ends after its flag is read", "begins on a lane in progress",
+            "ends on a lane in progress",
+        ],
+    ),
+    (
+        "reads of flags that last",
+        &[
+            "135 comes back", "136 comes back", "137 comes back", "138 comes back",
+            "147 comes back", "148 comes back", "149 comes back", "150 comes back",
+            "151 comes back", "152 comes back", "135 falls after its end",
+            "136 falls after its end", "137 falls after its end", "138 falls after its end",
+            "147 falls after its end", "148 falls after its end", "149 falls after its end",
+            "150 falls after its end", "151 falls after its end", "152 falls after its end",
+            "one byte, which is all that is on", "one byte of those that are on",
+            "a part, something on in it and beside it", "a part with all that is on",
+            "a part, something on beside it alone", "all flag bytes, something on",
+            "the whole page, something on", "one lane's comes back, another's falls",
+            "comes back again", "conditions and received power in one read",
+            "134 falls, another comes back",
+            "a lane never sampled has nothing on, though 0 is below its limit",
+            "edition 1: received power comes back", "edition 2: received power comes back",
+            "edition 3: received power comes back",
+        ],
+    ),
+    (
+        "masks of flags that last",
+        &[
+            "interrupt stays by what comes back alone", "comes back under its mask",
+            "interrupt ended by a read, what comes back is masked", "set over a flag that is on",
+            "set over a flag that is on, interrupt ended", "cleared over a flag that is on",
+            "cleared over a flag that is on, interrupt asserted",
+        ],
+    ),
+    (
+        "Apply on a lane with something on",
+        &[
+            "marked with a condition on", "marked with received power on", "copied",
+            "copied a lane with nothing on beside it", "closed with 1", "closed as a release",
+            "closed with a rejection", "its path moved by the hardware",
+        ],
+    ),
+    (
         "limits of received power at start",
         &[
             "0 all four equal", "0 low alarm equal to low warning",
@@ -197,8 +264,11 @@ pub const WANTED: &[(&str, &[&str])] = &[
         "nights",
         &[
             "no record", "one record", "5000 records", "index of four digits",
-            "edition 1", "edition 1 of 5000 records", "edition 2", "edition 2 of 5000 records",
+            "edition 1", "edition 1 of 5000 records", "edition 1 with bytes on 9Fh left out",
+            "edition 2", "edition 2 of 5000 records",
             "edition 2 with bytes on 9Fh that start clears",
+            "edition 3", "edition 3 of 5000 records",
+            "edition 3 with bytes on 9Fh that start clears",
         ],
     ),
 ];

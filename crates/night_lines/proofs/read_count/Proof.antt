@@ -1,14 +1,13 @@
 -- `night_lines::read_count` meets its contract, arm by arm. Assumes nothing.
-use Rattle.night_lines.specs.Lines.{readCount}
 use borrow.Author.Needs.{needs}
 use Rattle.night_lines.proofs.read_count.Statement.{statement}
 use Rattle.night_lines.proofs.read_count.Tie as tie
 
 pub read-count-spec : {M : Type 1} → statement M
-unfolding readCount
 read-count-spec =
     tie.close
     (tie.spec
+    (λ c. search needs)
     (λ c. search needs)
     (λ c. search needs)
     (λ c. search needs)
@@ -21,4 +20,5 @@ read-count-spec =
     (λ c. rw (c .enum-told2 .given .1))
     (λ c. rw (c .enum-told3 .given .1))
     (λ c. rw (c .enum-told4 .given .1))
-    (λ c. rw (c .enum-told5 .given .1)))
+    (λ c. rw (c .enum-told5 .given .1))
+    (λ c. rw (c .enum-told6 .given .1)))

@@ -6,7 +6,7 @@ use Prim.Native.Nat.{ℕ}
 use lib.ListN.{length}
 use Rattle.model.specs.Answers.{number}
 use Rattle.model.specs.Work.{early}
-use Rattle.model.specs.Step.{step}
+use Rattle.model.specs.Step.{readCount, step}
 use Rattle.model.specs.State.{State, stateWith}
 use Rattle.model.specs.Outcome.{listRoom, stepOutcome}
 use Rattle.contracts.specs.Contracts.{IsOutcome}
@@ -15,7 +15,7 @@ use Rattle.contracts.specs.declared.Returned.{Returned}
 use Rattle.model.specs.declared.event.Event.{Event}
 use lib.Dec.{eqb}
 use Rattle.bits.specs.Choice.{pick}
-use Rattle.night_lines.specs.Lines.{readCount, shownBy}
+use Rattle.night_lines.specs.Lines.{shownBy}
 use Rattle.night_lines.proofs.ReadBytes.{shown-most, shown-line, shown-fits}
 use borrow.Author.Needs.{needs}
 use Rattle.model.specs.Access.{readLimit}

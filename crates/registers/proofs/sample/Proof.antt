@@ -2,7 +2,7 @@
 use borrow.Author.Needs.{needs}
 use mathlib.Core.Path.{refl}
 use Rattle.model.specs.Step.{eventEffect}
-use Rattle.registers.proofs.Calls.{bytes-unused}
+use Rattle.calls.proofs.Calls.{bytes-unused}
 use Rattle.registers.proofs.sample.Statement.{statement}
 use Rattle.registers.proofs.sample.Tie as tie
 

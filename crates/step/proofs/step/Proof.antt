@@ -31,10 +31,16 @@ returns-6 : tie.Need-returns-6
 unfolding eventRefusals eventEffect
 returns-6 c = elsewhere _ _ _ _ _ _ _ _ (c .before .before .before .before .before .call6 .given .1) refl refl (c .before .before .sample .ensures)
 
+returns-7 : tie.Need-returns-7
+unfolding eventRefusals eventEffect
+returns-7 c = elsewhere _ _ _ _ _ _ _ _ (c .before .before .before .before .before .call7 .given .1) refl refl (c .before .before .lasting .ensures)
+
 pub step-spec : {M : Type 1} → statement M
 step-spec =
     tie.close
     (tie.spec
+    (λ c. search needs)
+    (λ c κs. search needs)
     (λ c. search needs)
     (λ c κs. search needs)
     (λ c. search needs)
@@ -59,4 +65,6 @@ step-spec =
     (λ c. search needs)
     returns-5
     (λ c. search needs)
-    returns-6)
+    returns-6
+    (λ c. search needs)
+    returns-7)

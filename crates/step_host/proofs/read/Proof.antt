@@ -7,7 +7,7 @@ use Rattle.model.specs.declared.answer.Answer.the-variants.{BadAccess, ShortBuf
 use Rattle.access_limits.proofs.Halves.{good-access}
 use Rattle.step_answers.proofs.Outcomes.{refused-leaves, done-leaves}
 use Rattle.step_answers.proofs.Answered.{read-bad, read-short, read-done}
-use Rattle.step_host.proofs.Ends.{read-ended}
+use Rattle.step_host.proofs.Ends.{read-shown, read-ended}
 use Rattle.step_host.proofs.read.Statement.{statement}
 use Rattle.step_host.proofs.read.Tie as tie
 
@@ -18,14 +18,25 @@ returns-2 c =
     (read-short _ _ _ _ (sym (c .before .before .before .bad-access .ensures) ∙ c .before .before .if1 .left) (c .before .if2 .taken))
     refl (c .reply2 .ensures)
 
+show-flags-requires : tie.Need-show-flags-requires
+show-flags-requires c κs =
+    let g = good-access 128 _ _ (sym (c .before .before .before .before .before .before .before .before .before .before .bad-access .ensures) ∙ c .before .before .before .before .before .before .before .before .before .if1 .left) in
+    (search needs, g .1)
+
+end-access-requires : tie.Need-end-access-requires
+end-access-requires c κs = search needs
+
 returns-3 : tie.Need-returns-3
 unfolding eventEffect readEffect
 returns-3 c =
-    let good = sym (c .before .before .before .before .before .before .before .before .before .before .before .before .before .before .bad-access .ensures) ∙ c .before .before .before .before .before .before .before .before .before .before .before .before .before .if1 .left in
-    let w = c .before .before .before .before .before .before .before .before .before .read .ensures in
+    let good = sym (c .before .before .before .before .before .before .before .before .before .before .before .before .before .before .before .before .before .before .bad-access .ensures) ∙ c .before .before .before .before .before .before .before .before .before .before .before .before .before .before .before .before .before .if1 .left in
+    let w = c .before .before .before .before .before .before .before .before .before .before .before .before .before .read .ensures in
+    let again = c .before .before .before .before .before .before .before .show-flags .ensures in
+    let end = c .before .before .before .end-access .ensures in
     let r = c .reply3 .ensures in
-    done-leaves _ _ _ _ _ _ _ _ _ (read-done _ _ _ _ good (c .before .before .before .before .before .before .before .before .before .before .before .before .if2 .left)) refl (ap (λ t. t .answer) r) (w .image) (read-ended _ _ _ (c .before .before .before .end-access .ensures))
-    (ap (λ t. t .working) r) (w .bytes) (ap (λ t. t .mask) r)
+    done-leaves _ _ _ _ _ _ _ _ _ (read-done _ _ _ _ good (c .before .before .before .before .before .before .before .before .before .before .before .before .before .before .before .before .if2 .left)) refl (ap (λ t. t .answer) r)
+    (read-shown _ _ _ _ _ _ (w .image) again)
+    (read-ended _ _ _ end) (ap (λ t. t .working) r) (w .bytes) (ap (λ t. t .mask) r)
 
 pub read-spec : {M : Type 1} → statement M
 unfolding isDone
@@ -38,7 +49,8 @@ read-spec =
     (λ c κs. search needs)
     returns-2
     (λ c κs. let g = good-access 128 _ _ (sym (c .before .before .before .before .bad-access .ensures) ∙ c .before .before .before .if1 .left) in search needs)
-    (λ c κs. search needs)
+    show-flags-requires
+    end-access-requires
     (λ c κs. search needs)
     (λ c. search needs)
     (λ c. search needs)

@@ -1,11 +1,12 @@
 -- `step_module::condition` meets its contract. Assumes nothing.
 use borrow.Author.Needs.{needs}
+use native.Mathlib.Omega.{arith}
 use mathlib.Core.Path.{refl, sym, _∙_}
 use borrow.Author.Tests.{not-true, not-false}
 use Rattle.model.specs.Answers.{isDone}
 use Rattle.model.specs.Step.{eventEffect}
 use Rattle.model.specs.declared.answer.Answer.the-variants.{NoSuchTarget}
-use Rattle.flags.proofs.Conditions.{condition-upper}
+use Rattle.flags.proofs.Conditions.{condition-among}
 use Rattle.step_answers.proofs.Outcomes.{refused-leaves, image-leaves}
 use Rattle.step_answers.proofs.Answered.{condition-nowhere, condition-done}
 use Rattle.step_module.proofs.condition.Statement.{statement}
@@ -31,7 +32,7 @@ condition-spec =
     (λ c κs. search needs)
     (λ c κs. search needs)
     returns
-    (λ c κs. (search needs, condition-upper _ (sym (c .before .before .is-condition-flag .ensures) ∙ not-false _ (c .before .if1 .left))))
+    (λ c κs. let among = condition-among _ (sym (c .before .before .is-condition-flag .ensures) ∙ not-false _ (c .before .if1 .left)) in (search needs, omega arith))
     (λ c κs. search needs)
     (λ c κs. search needs)
     (λ c. search needs)

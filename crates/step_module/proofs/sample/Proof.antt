@@ -4,7 +4,7 @@ use mathlib.Core.Path.{refl}
 use Rattle.model.specs.Answers.{isDone}
 use Rattle.model.specs.Step.{eventEffect}
 use Rattle.model.specs.declared.answer.Answer.the-variants.{NoSuchTarget}
-use Rattle.step_answers.proofs.Outcomes.{refused-leaves, image-leaves}
+use Rattle.step_answers.proofs.Outcomes.{refused-leaves, state-leaves}
 use Rattle.step_answers.proofs.Answered.{sample-nowhere, sample-done}
 use Rattle.step_module.proofs.sample.Statement.{statement}
 use Rattle.step_module.proofs.sample.Tie as tie
@@ -12,7 +12,7 @@ use Rattle.step_module.proofs.sample.Tie as tie
 returns-2 : tie.Need-returns-2
 unfolding eventEffect
 returns-2 c =
-    image-leaves _ _ _ _ _ _ _ _
+    state-leaves _ _ _ _ _ _ _ _ _
     (sample-done _ _ _ _ (c .before .before .before .before .before .before .before .before .before .if1 .left))
     refl
     (c .before .before .before .before .before .before .before .sample .ensures)

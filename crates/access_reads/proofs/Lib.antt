@@ -1,0 +1,2 @@
+-- What a read clears.
+pub mod Cleared

@@ -1,0 +1,2 @@
+-- The cases of the night file's editions, computed.
+pub mod Editions

@@ -1,0 +1,68 @@
+-- The editions of the night file (02 Req 01, Req 02), in one and in pieces: which image each carries, what a condition's record says in each, and headers that
+-- belong to none. The numbers are the papers' own.
+use Prim.Native.Nat.{ℕ}
+use Prim.Native.String.{String}
+use mathlib.Core.Bool.{Bool}
+use mathlib.Core.List.{List, [], _∷_, _++_}
+use lib.ListN.{length, take}
+use Rattle.bits.specs.Choice.{both}
+use Rattle.bits.specs.Loop.{tab}
+use Rattle.bits.specs.Word.{putWord}
+use Rattle.cases_worked.specs.Worked.{example}
+use Rattle.cases_starred.specs.Case.{blank, limited, read, sample, selectPage}
+use Rattle.cases_worked.specs.Files.{padded, recordsOf, flat}
+use Rattle.cases_streamed.specs.Streamed.{prints, printsInOne, malformed}
+
+-- a header of an edition whose records begin at an offset
+unfoldable pub headed : ℕ → ℕ → ℕ → List ℕ
+headed edition offset count = putWord 4 (putWord 4 (putWord 4 (0x57 ∷ 0x4c ∷ edition ∷ tab 13 (λ i. 0)) 4 count) 8 16) 12 offset
+
+-- a file of 01's example with so many bytes of its image
+unfoldable pub exampleOf : ℕ → ℕ → ℕ → List ℕ
+exampleOf edition offset bytes = headed edition offset (length (example .events)) ++ take bytes (example .image) ++ recordsOf (example .events)
+
+-- in one and in pieces the same lines
+unfoldable pub bothPrint : List ℕ → List String → Bool
+bothPrint file seen = both (printsInOne file seen) (prints (file ∷ []) seen)
+
+abbrev pub editions : List Bool
+editions =
+    -- 01's example prints the same in every edition
+    bothPrint (exampleOf 1 784 768) (example .seen)
+    ∷ bothPrint (exampleOf 2 912 896) (example .seen)
+    ∷ bothPrint (exampleOf 3 912 896) (example .seen)
+    -- each with another's offset, and with another's length
+    ∷ bothPrint (exampleOf 2 784 768) malformed
+    ∷ bothPrint (exampleOf 3 784 768) malformed
+    ∷ bothPrint (exampleOf 1 912 896) malformed
+    -- an edition that there is not
+    ∷ bothPrint (exampleOf 4 912 896) malformed
+    ∷ bothPrint (exampleOf 0 784 768) malformed
+    -- start sees the image of edition 2
+    ∷ bothPrint (headed 2 912 0 ++ flat) ("bad 2" ∷ [])
+    ∷ []
+
+-- ---- records of kind 5
+
+-- two records, then two reads of 11h:135, from a blank image
+unfoldable pub sensed : ℕ → ℕ → ℕ → List ℕ → List ℕ → List ℕ
+sensed edition offset bytes first second =
+    headed edition offset 5 ++ take bytes blank ++ padded first ++ padded second ++ recordsOf (selectPage 0x11 ∷ read 135 1 ∷ read 135 1 ∷ [])
+
+abbrev pub conditions : List Bool
+conditions =
+    -- a flag byte and a mask: it comes once in editions 1 and 2, and lasts in 3
+    printsInOne (sensed 1 784 768 (5 ∷ 135 ∷ 0x0f ∷ []) (5 ∷ 135 ∷ 0x30 ∷ [])) ("0 0" ∷ "1 0" ∷ "2 0" ∷ "3 0 3f" ∷ "4 0 00" ∷ [])
+    ∷ printsInOne (sensed 2 912 896 (5 ∷ 135 ∷ 0x0f ∷ []) (5 ∷ 135 ∷ 0x30 ∷ [])) ("0 0" ∷ "1 0" ∷ "2 0" ∷ "3 0 3f" ∷ "4 0 00" ∷ [])
+    ∷ printsInOne (sensed 3 912 896 (5 ∷ 135 ∷ 0x0f ∷ []) (5 ∷ 135 ∷ 0x30 ∷ [])) ("0 0" ∷ "1 0" ∷ "2 0" ∷ "3 0 3f" ∷ "4 0 3f" ∷ [])
+    -- an off mask: edition 3 has it, the others do not
+    ∷ bothPrint (sensed 3 912 896 (5 ∷ 135 ∷ 0x0f ∷ []) (5 ∷ 135 ∷ 0x30 ∷ 0x3c ∷ [])) ("0 0" ∷ "1 0" ∷ "2 0" ∷ "3 0 3f" ∷ "4 0 33" ∷ [])
+    ∷ printsInOne (sensed 2 912 896 (5 ∷ 135 ∷ 0x0f ∷ []) (5 ∷ 135 ∷ 0x30 ∷ 0x3c ∷ [])) malformed
+    ∷ prints (sensed 2 912 896 (5 ∷ 135 ∷ 0x0f ∷ []) (5 ∷ 135 ∷ 0x30 ∷ 0x3c ∷ []) ∷ []) ("0 0" ∷ "bad 9" ∷ [])
+    ∷ printsInOne (sensed 1 784 768 (5 ∷ 135 ∷ 0x0f ∷ 0x01 ∷ []) (5 ∷ 135 ∷ 0x30 ∷ [])) malformed
+    -- past it nothing is used
+    ∷ printsInOne (sensed 3 912 896 (5 ∷ 135 ∷ 0x0f ∷ []) (5 ∷ 135 ∷ 0x30 ∷ 0x3c ∷ 0x01 ∷ [])) malformed
+    -- a sample lasts in every edition
+    ∷ printsInOne (headed 1 784 4 ++ take 768 (limited 1000 1000 2000 2000 blank) ++ recordsOf (sample 0 999 ∷ selectPage 0x11 ∷ read 150 1 ∷ read 150 1 ∷ []))
+    ("0 0" ∷ "1 0" ∷ "2 0 01" ∷ "3 0 01" ∷ [])
+    ∷ []

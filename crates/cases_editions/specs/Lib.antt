@@ -1,0 +1,2 @@
+-- Cases of the night file's editions.
+pub mod Editions

@@ -1,0 +1,2 @@
+-- The cases of flags that last, computed.
+pub mod Lasting

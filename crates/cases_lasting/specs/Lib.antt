@@ -1,0 +1,2 @@
+-- Cases of flags that last.
+pub mod Lasting

@@ -1,0 +1,2 @@
+-- What a sample leaves, and which limits it lies beyond.
+pub mod Crossing

@@ -1,0 +1,3 @@
+-- Replacing what is on, and what shows again.
+pub mod Ons
+pub mod Shown

@@ -1,0 +1,11 @@
+-- `registers::lasting` meets its contract. Assumes nothing.
+use borrow.Author.Needs.{needs}
+use mathlib.Core.Path.{refl}
+use Rattle.model.specs.Step.{eventEffect}
+use Rattle.calls.proofs.Calls.{bytes-unused}
+use Rattle.registers.proofs.lasting.Statement.{statement}
+use Rattle.registers.proofs.lasting.Tie as tie
+
+pub lasting-spec : {M : Type 1} → statement M
+unfolding eventEffect
+lasting-spec = tie.close (tie.spec (λ c κs. search needs) (λ c. search needs) (λ c. bytes-unused _ _ _ _ _ _ _ refl (c .before .before .without-buffer .ensures)))
