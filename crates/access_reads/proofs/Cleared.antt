@@ -1,6 +1,6 @@
 -- A read that touches no byte that a read clears: it leaves the image. Assumes nothing.
 use mathlib.Core.Path.{_≡_, refl, sym, ap, _∙_}
-use mathlib.Core.Bool.{true, false, _&&_, _||_}
+use mathlib.Core.Bool.{Bool, true, false, _||_}
 use mathlib.Core.Logic.{inl, inr}
 use Prim.Native.Nat.{ℕ, _+_, _≤_, _<_}
 use native.Mathlib.Omega.{arith}
@@ -8,13 +8,13 @@ use lib.Dec.{leb, ltb}
 use borrow.Author.Tests.{leb-true, leb-false, lt-ltb}
 use Rattle.bits.specs.Choice.{both, either}
 use Rattle.bits.proofs.Loops.{each-skip}
-use Rattle.bits.proofs.Tests.{both-l, both-r, both-i, either-l, either-r, either-cases, and-both, or-either, clash}
+use Rattle.bits.proofs.Tests.{both-l, both-r, both-i, either-l, either-r, either-cases, or-either, clash}
 use Rattle.model.specs.Map.{Image, flagBytes, flagByteCount, inRanges, clearing}
 use Rattle.model.specs.Access.{clearedImage}
 
-module _ (i n : ℕ) (e : (leb i 9 || (ltb i (flagBytes + flagByteCount) && ltb flagBytes (i + n))) ≡ false) where
+module _ (i n : ℕ) (meets : Bool) (m : meets ≡ both (ltb i (flagBytes + flagByteCount)) (ltb flagBytes (i + n))) (e : (leb i 9 || meets) ≡ false) where
   tests : either (leb i 9) (both (ltb i (flagBytes + flagByteCount)) (ltb flagBytes (i + n))) ≡ false
-  tests = ap (either (leb i 9)) (sym (and-both (ltb i (flagBytes + flagByteCount)) (ltb flagBytes (i + n)))) ∙ sym (or-either (leb i 9) _) ∙ e
+  tests = ap (either (leb i 9)) (sym m) ∙ sym (or-either (leb i 9) meets) ∙ e
 
   apart : i < flagBytes + flagByteCount → flagBytes < i + n → ⊥
   apart p q = clash (both-i (lt-ltb i (flagBytes + flagByteCount) p) (lt-ltb flagBytes (i + n) q)) (either-r (leb i 9) _ tests)

@@ -26,9 +26,7 @@ fn read_half(image: &mut [u8], start: usize, offset: usize, n: usize, buffer: &m
 {
     pages_window::take(image, start, offset, n, buffer);
     let i = start + offset;
-    if (i <= map::LAST_MODULE_FLAGS)
-        | ((i < map::FLAG_BYTES + (map::FLAG_BYTE_COUNT as usize)) & (map::FLAG_BYTES < i + n))
-    {
+    if (i <= map::LAST_MODULE_FLAGS) | map::meets_flags(i, n) {
         clear(image, i, n);
     }
 }

@@ -1,47 +1,42 @@
 -- What is on, replaced lane by lane or on one lane: the model's `withOns`. Assumes nothing.
 use mathlib.Core.Path.{_≡_, refl, sym, ap, ap₂, _∙_}
-use mathlib.Core.Bool.{Bool, true, false, not, _&&_, _||_}
+use mathlib.Core.Bool.{Bool, not, _&&_, _||_}
 use mathlib.Core.List.{List}
 use Prim.Native.Nat.{ℕ, _<_}
 use native.Mathlib.Omega.{arith}
 use lib.Dec.{eqb}
-use lib.ListN.{length, getD, set}
+use lib.ListN.{length, set}
 use borrow.Author.Tests.{eqb-true, eq-eqb}
 use Rattle.bits.specs.Choice.{pick, both, either}
-use Rattle.bits.specs.Loop.{each, tab}
+use Rattle.bits.specs.Loop.{each}
 use Rattle.bits.specs.Sets.{laneCount, has}
 use Rattle.bits.proofs.Tests.{and-both, or-either}
-use Rattle.bits.proofs.Loops.{each-skip, each-hit, change-loop, tab-ext}
+use Rattle.bits.proofs.Loops.{each-skip, each-hit}
 use Rattle.model.specs.Numbers.{OnBits}
 use Rattle.model.specs.Map.{Image}
-use Rattle.model.specs.Records.{idleRecord, recordAt, onAt, withOn, withOns, withFlagOn}
+use Rattle.model.specs.Records.{recordAt, onAt, withOn, withOns, withFlagOn}
 use Rattle.model.specs.State.{stateWith}
 use Rattle.model.specs.Flags.{conditionOn, sampledOn, sampledState}
 use Rattle.model.specs.declared.lane.LaneRecord.{LaneRecord}
 use Rattle.model.specs.declared.lane.Working.{Working}
+use Rattle.records.proofs.Fields.{replaced, fields-loop}
 use Rattle.flags.specs.Crossing.{crossing}
 use Rattle.flags.specs.declared.Crossing.{Crossing}
 use Rattle.flags_lasting.specs.Beyond.{beyondOn}
 
 -- what is on replaced on lane k, which may depend on the lane and on what was on
 abbrev pub turned : (ℕ → OnBits → OnBits) → ℕ → List LaneRecord → List LaneRecord
-turned f k rs = set rs k (withOn (getD rs k idleRecord) (f k (getD rs k idleRecord .on)))
+turned = replaced (λ r. r .on) withOn
 
--- a record on which it is chosen what is on is a choice of records
-chosen : (b : Bool) (r : LaneRecord) (on : OnBits) → pick b (withOn r on) r ≡ withOn r (pick b on (r .on))
-unfolding pick withOn
-chosen true r on = refl
-chosen false r on = refl
+same-on : (r : LaneRecord) → withOn r (r .on) ≡ r
+unfolding withOn
+same-on r = refl
 
 -- a loop over the lanes that pass the test
 pub ons-loop : (c : ℕ → Bool) (f : ℕ → OnBits → OnBits) (w v : Working) → length (w .lanes) ≡ laneCount
     → v .lanes ≡ each c (turned f) laneCount (w .lanes) → v ≡ withOns w (λ l. pick (c l) (f l (onAt w l)) (onAt w l))
 unfolding withOns
-ons-loop c f w v e h =
-    let m : v .lanes ≡ tab laneCount (λ l. withOn (recordAt w l) (pick (c l) (f l (onAt w l)) (onAt w l))) =
-    h ∙ change-loop c (λ k r. withOn r (f k (r .on))) (w .lanes) laneCount idleRecord e
-    ∙ tab-ext laneCount _ _ (λ k b. chosen (c k) (recordAt w k) (f k (onAt w k))) in
-    λ i. record { lanes = m i }
+ons-loop c f w v e h = let m = h ∙ fields-loop (λ r. r .on) withOn same-on c f (w .lanes) e in λ i. record { lanes = m i }
 
 -- what is on of a lane after a lasting condition, from the code's tests
 pub condition-by : (k on off l bits after : ℕ) (was ends begins : Bool) → was ≡ has bits k → ends ≡ has off l → begins ≡ has on l

@@ -1,18 +1,19 @@
 -- What shows again after a read: flag by flag, and nothing where no flag byte was read or nothing is on. Assumes nothing.
 use mathlib.Core.Path.{_≡_, sym, ap, _∙_}
-use mathlib.Core.Bool.{false, not, _&&_}
+use mathlib.Core.Bool.{false, not}
 use Prim.Native.Nat.{ℕ, _+_, _<_}
 use native.Mathlib.Omega.{arith}
 use lib.Dec.{eqb, ltb}
 use borrow.Author.Tests.{not-false, eqb-true, leb-true, ltb-true, lt-ltb}
 use Rattle.bits.specs.Lane.{laneField}
+use Rattle.bits.specs.Choice.{both}
 use Rattle.bits.specs.Loop.{each, anyBelow}
 use Rattle.bits.specs.Place.{put}
 use Rattle.bits.specs.Sets.{laneCount, has}
 use Rattle.bits.proofs.Loops.{each-skip, any-none}
 use Rattle.bits.proofs.Masks.{has-mask}
 use Rattle.bits.proofs.Sets.{has-zero}
-use Rattle.bits.proofs.Tests.{both-l, both-r, both-i, and-both, clash}
+use Rattle.bits.proofs.Tests.{both-l, both-r, both-i, clash}
 use Rattle.model.specs.Map.{Image, flagBytes, flagByteCount, on, page11, lastingCount, lastingFlag}
 use Rattle.model.specs.Records.{onAt, onLanes}
 use Rattle.model.specs.Registers.{withFlags}
@@ -26,7 +27,7 @@ unfolding withFlags
 flag-shown w k at lanes x y p e h = rw (← e, ← p) h
 
 -- a read that touches no flag byte
-pub none-read : (w : Working) (i n : ℕ) (x : Image) → (ltb flagBytes (i + n) && ltb i (flagBytes + flagByteCount)) ≡ false → x ≡ shownAgainImage w i n x
+pub none-read : (w : Working) (i n : ℕ) (x : Image) → both (ltb i (flagBytes + flagByteCount)) (ltb flagBytes (i + n)) ≡ false → x ≡ shownAgainImage w i n x
 unfolding shownAgainImage isRead
 none-read w i n x e =
     sym
@@ -34,7 +35,7 @@ none-read w i n x e =
     (λ k y b t.
     let p : i < flagBytes + flagByteCount = omega (arith, leb-true i (on page11 (lastingFlag k)) (both-l _ _ t)) in
     let q : flagBytes < i + n = omega (arith, ltb-true (on page11 (lastingFlag k)) (i + n) (both-r _ _ t)) in
-    absurd (clash (both-i (lt-ltb _ _ q) (lt-ltb _ _ p)) (sym (and-both _ _) ∙ e))))
+    absurd (clash (both-i (lt-ltb _ _ p) (lt-ltb _ _ q)) e)))
 
 -- a module on which nothing is on
 no-lane-on : (w : Working) (k l : ℕ) → anyBelow laneCount (λ m. not (eqb (onAt w m) 0)) ≡ false → l < laneCount → has (onLanes w k) l ≡ false

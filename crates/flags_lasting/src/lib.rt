@@ -133,7 +133,7 @@ pub fn show_again(image: &mut [u8], w: Working, i: usize, n: usize)
     requires { ⌜ (length (now image) ≡ imageLength) × (i + n ≤ imageLength) ⌝ }
     ensures { λ _. ⌜ now (image .exit) ≡ shownAgainImage w i n (now (image .entry)) ⌝ }
 {
-    if (map::FLAG_BYTES < i + n) & (i < map::FLAG_BYTES + (map::FLAG_BYTE_COUNT as usize)) {
+    if map::meets_flags(i, n) {
         if is_any_on(w) {
             show_bytes(image, w, i, n);
         }

@@ -2,26 +2,23 @@
 use mathlib.Core.Path.{_≡_, refl, sym, _∙_}
 use mathlib.Core.Bool.{Bool, true, false, not}
 use mathlib.Core.List.{List, [], _∷_}
-use mathlib.Core.Logic.{_⊎_, inl, inr, _≢_}
+use mathlib.Core.Logic.{_⊎_, inl, inr}
 use Prim.Native.Nat.{ℕ, suc, _+_, _*_, _≤_, _<_}
 use native.Mathlib.Decide.{ℕ-discrete}
 use native.Mathlib.Omega.{arith}
 use lib.Dec.{eqb, ltb}
 use lib.ListN.{length, set, take}
 use lib.Seq.{getD-set-other}
-use mir.Val.{boolByte}
 use borrow.Author.Tests.{eqb-true, ltb-true, not-false}
 use Rattle.bits.specs.Choice.{pick, onlyIf, both, either}
-use Rattle.bits.specs.Number.{withField}
 use Rattle.bits.specs.Place.{get}
 use Rattle.bits.specs.Sets.{has}
 use Rattle.bits.specs.Word.{putWord}
 use Rattle.bits.proofs.Tests.{split, clash, both-l, either-cases, pick-true, pick-false, pick-has}
-use Rattle.bits.proofs.Masks.{has-put, has-put-other}
 use Rattle.bits.proofs.Sets.{has-zero}
 use Rattle.bits.proofs.Number.{stays}
 use Rattle.bits.proofs.Words.{length-put-word, word-byte-other}
-use Rattle.model.specs.Map.{Image, inRanges, imageLength, on, page11, flagAt, lastingCount, lastingFlag, lastingIndex, highAlarmFlag, lowAlarmFlag, highWarningFlag, lowWarningFlag, receivedPower, writableRanges, writable, pageSelect, applyDPInit, applyImmediate, stagedSet0}
+use Rattle.model.specs.Map.{Image, imageLength, on, page11, flagAt, lastingCount, lastingFlag, lastingIndex, highAlarmFlag, lowAlarmFlag, highWarningFlag, lowWarningFlag, receivedPower, writableRanges, writable, pageSelect, applyDPInit, applyImmediate, stagedSet0}
 use Rattle.model.specs.Answers.{isDone}
 use Rattle.model.specs.Records.{stageAt, onAt, withFlagOn}
 use Rattle.model.specs.State.{State, withImage}
@@ -46,8 +43,9 @@ use Rattle.model.specs.declared.lane.Verdict.{Verdict}
 use Rattle.model.specs.declared.lane.Verdict.the-variants.{Pass, Reject}
 use Rattle.model.specs.declared.lane.Stage.{Stage}
 use Rattle.model.specs.declared.lane.Stage.the-variants.{Idle, InProgress}
+use Rattle.model.proofs.Lasting.{condition-among, flag-now, flag-other}
 use Rattle.laws_frames.specs.Frames.{SameWithin, onAfter}
-use Rattle.laws_frames.proofs.Ranges.{between, allCovered, coveredBy, spanned, apartFrom, not-in}
+use Rattle.laws_frames.proofs.Ranges.{apartFrom, not-in}
 use Rattle.laws_frames.proofs.Outside.{get-same, get-within, below-range, above-range}
 use Rattle.laws_frames.proofs.Registers.{lane-from, lane-to}
 use Rattle.laws_frames.proofs.Changes.{status-outside, pending-outside, copy-outside, settled-outside, selected-outside, cleared-unread, cleared-length, hardware-off}
@@ -66,21 +64,6 @@ lastingFrom = on page11 135
 
 abbrev lastingEnd : ℕ
 lastingEnd = on page11 153
-
-condition-range : (flag : ℕ) → isConditionFlag flag ≡ true → (135 ≤ flag) × (flag ≤ 148)
-unfolding isConditionFlag allCovered coveredBy both either
-condition-range flag e = spanned 135 148 _ flag refl e
-
--- a condition's flag by its index among those that can last
-condition-index : (flag : ℕ) → isConditionFlag flag ≡ true → (lastingIndex flag < lastingCount) × (lastingFlag (lastingIndex flag) ≡ flag)
-unfolding isConditionFlag inRanges
-condition-index flag e = elim (either-cases _ _ e) [
-  | inl t ↦ let r = between 135 flag 138 t in (omega arith, omega arith)
-  | inr u ↦ elim (either-cases _ _ u) [
-    | inl t ↦ let r = between 147 flag 148 t in (omega arith, omega arith)
-    | inr t ↦ absurd (clash t refl)
-  ]
-]
 
 -- a state has another's bytes there
 abbrev SameLasting : State → State → Type 0
@@ -103,14 +86,11 @@ with-fits : (x : Image) (l bits k : ℕ) (test : Bool) → k < lastingCount → 
 unfolding withFlagOn
 with-fits x l bits k test h O f = record {
   few = stays bits k 1 _ lastingCount (omega arith) (O .few);
-  shows = λ j b t. elim (ℕ-discrete j k) [ yes q ↦ rw q (f (here j q t)) | no q ↦ O .shows j b (there j q t) ];
+  shows = λ j b t. elim (ℕ-discrete j k) [
+    | yes q ↦ rw q (f (sym (flag-now k test bits) ∙ rw q at t))
+    | no q ↦ O .shows j b (sym (flag-other k test bits j q) ∙ t)
+  ];
 }
-  where
-    here : (j : ℕ) → j ≡ k → has (withField bits k 1 (boolByte test)) j ≡ true → test ≡ true
-    here j q t = sym (has-put bits k test) ∙ rw q at t
-
-    there : (j : ℕ) → j ≢ k → has (withField bits k 1 (boolByte test)) j ≡ true → has bits j ≡ true
-    there j q t = sym (has-put-other bits k test j q) ∙ t
 
 -- ---- events that change neither what is on nor its flags
 
@@ -184,7 +164,7 @@ module _ (s : State) (O : AllOnFit s) where
   -- ---- conditions
   module _ (flag : ℕ) (listed : isConditionFlag flag ≡ true) (size : length (s .image) ≡ imageLength) where
     there : on page11 flag < length (s .image)
-    there = omega (arith, condition-range flag listed)
+    there = let among = condition-among flag listed in omega arith
 
     -- flags are set, and none falls
     raised-fit : (mask l : ℕ) → l < 8 → OnFits (conditionImage flag mask (s .image)) l (onAt (s .working) l)
@@ -196,17 +176,17 @@ module _ (s : State) (O : AllOnFit s) where
         → get (conditionImage flag on (s .image)) (flagAt flag l) ≡ 1
     unfolding conditionImage
     set-or-on on off l b (inl t) =
-        let i = condition-index flag listed in
-        flag-stays (s .image) flag on flag l there b (rw (i .1) at (O l b .shows (lastingIndex flag) (i .0) (both-l _ _ t)))
+        let among = condition-among flag listed in
+        flag-stays (s .image) flag on flag l there b (rw (among .3) at (O l b .shows (lastingIndex flag) (among .2) (both-l _ _ t)))
     set-or-on on off l b (inr t) = flag-in (s .image) flag on l there b t
 
     lasting-fit : (on off : ℕ) → AllOnFit (lastingState flag on off s)
     unfolding lastingState conditionOn
     lasting-fit on off l b =
-        let i = condition-index flag listed in
+        let among = condition-among flag listed in
         rw (on-in (s .working) (λ m. conditionOn (lastingIndex flag) on off m (onAt (s .working) m)) l b)
-        (with-fits (conditionImage flag on (s .image)) l (onAt (s .working) l) (lastingIndex flag) _ (i .0) (raised-fit on l b)
-        (λ t. rw (i .1) (set-or-on on off l b (either-cases _ _ t))))
+        (with-fits (conditionImage flag on (s .image)) l (onAt (s .working) l) (lastingIndex flag) _ (among .2) (raised-fit on l b)
+        (λ t. rw (among .3) (set-or-on on off l b (either-cases _ _ t))))
 
 -- ---- a sample
 

@@ -1,6 +1,6 @@
 -- What is on after each event: a lasting condition and a sample of the lane have their say, and nothing else changes it. Assumes nothing.
 use mathlib.Core.Path.{_≡_, refl, ap, _∙_}
-use mathlib.Core.Bool.{Bool, false}
+use mathlib.Core.Bool.{false}
 use mathlib.Core.List.{List}
 use mathlib.Core.Logic.{_⊎_, inl, inr, _≢_}
 use Prim.Native.Nat.{ℕ, _≤_, _<_}
@@ -8,10 +8,9 @@ use native.Mathlib.Omega.{arith}
 use borrow.Author.Tests.{eq-eqb}
 use Rattle.bits.specs.Sets.{has}
 use Rattle.bits.proofs.Tests.{split, clash, pick-true, pick-false}
-use Rattle.bits.proofs.Masks.{has-put, has-put-other}
-use Rattle.model.specs.Map.{lastingIndex, highAlarmFlag, lowWarningFlag}
+use Rattle.model.specs.Map.{lastingIndex, highAlarmFlag, lowAlarmFlag, highWarningFlag, lowWarningFlag}
 use Rattle.model.specs.Answers.{isDone}
-use Rattle.model.specs.Records.{stageAt, onAt, withFlagOn}
+use Rattle.model.specs.Records.{stageAt, onAt}
 use Rattle.model.specs.State.{State}
 use Rattle.model.specs.Work.{early}
 use Rattle.model.specs.Flags.{conditionOn, lastingState, aboveAlarm, belowAlarm, aboveWarning, belowWarning, sampledOn, sampledState}
@@ -20,6 +19,7 @@ use Rattle.model.specs.declared.answer.Answer.the-variants.{Done}
 use Rattle.model.specs.declared.event.Call.{Call}
 use Rattle.model.specs.declared.event.Call.the-variants.{Write, Read, Work, Hardware, Condition, Sample, Lasting}
 use Rattle.model.specs.declared.event.Event.{Event}
+use Rattle.model.proofs.Lasting.{flag-now, flag-other}
 use Rattle.laws.proofs.Unchanged.{done-is}
 use Rattle.laws_frames.specs.Frames.{onAfter}
 use Rattle.laws_frames.proofs.Stages.{stage-kept}
@@ -54,17 +54,6 @@ on-kept room s e l h n = split (isDone (step early room s e .answer))
     (λ d. on-done room s e (done-is _ d) l h ∙ call-keeps-on s (e .call) l n)
     (λ d. rw (refused-step room s e (λ q. clash (ap isDone q) d)))
 
--- ---- one flag of a lane's on bits replaced
-
-module _ (k : ℕ) (test : Bool) (bits : ℕ) where
-  flag-now : has (withFlagOn k test bits) k ≡ test
-  unfolding withFlagOn
-  flag-now = has-put bits k test
-
-  flag-other : (j : ℕ) → j ≢ k → has (withFlagOn k test bits) j ≡ has bits j
-  unfolding withFlagOn
-  flag-other j d = has-put-other bits k test j d
-
 -- ---- a lasting condition
 
 module _ (room : ℕ) (s : State) (bytes : List ℕ) (flag on off : ℕ) (d : stepOn room s (Lasting flag on off) bytes .answer ≡ Done) where
@@ -84,8 +73,21 @@ module _ (room : ℕ) (s : State) (bytes : List ℕ) (flag on off : ℕ) (d : st
 
 -- ---- a sample
 
--- a flag byte outside those of received power
-outside : (k j : ℕ) → (k < lastingIndex highAlarmFlag) ⊎ (lastingIndex lowWarningFlag < k) → lastingIndex highAlarmFlag ≤ j → j ≤ lastingIndex lowWarningFlag → k ≢ j
+-- the flags of received power by their index
+abbrev highAlarm : ℕ
+highAlarm = lastingIndex highAlarmFlag
+
+abbrev lowAlarm : ℕ
+lowAlarm = lastingIndex lowAlarmFlag
+
+abbrev highWarning : ℕ
+highWarning = lastingIndex highWarningFlag
+
+abbrev lowWarning : ℕ
+lowWarning = lastingIndex lowWarningFlag
+
+-- an index outside of them
+outside : (k j : ℕ) → (k < highAlarm) ⊎ (lowWarning < k) → highAlarm ≤ j → j ≤ lowWarning → k ≢ j
 outside k j (inl a) p q = omega arith
 outside k j (inr a) p q = omega arith
 
@@ -96,11 +98,15 @@ module _ (room : ℕ) (s : State) (bytes : List ℕ) (l p : ℕ) (d : stepOn roo
   sampled-on =
       let e = on-done room s (event (Sample l p) bytes) d l (is-lane room s bytes l p d) ∙ pick-true _ _ (eq-eqb l l refl) in
       record {
-        aboveAlarm = ap (λ b. has b 6) e ∙ flag-other 9 _ _ 6 (omega arith) ∙ flag-other 8 _ _ 6 (omega arith) ∙ flag-other 7 _ _ 6 (omega arith) ∙ flag-now 6 _ _;
-        belowAlarm = ap (λ b. has b 7) e ∙ flag-other 9 _ _ 7 (omega arith) ∙ flag-other 8 _ _ 7 (omega arith) ∙ flag-now 7 _ _;
-        aboveWarning = ap (λ b. has b 8) e ∙ flag-other 9 _ _ 8 (omega arith) ∙ flag-now 8 _ _;
-        belowWarning = ap (λ b. has b 9) e ∙ flag-now 9 _ _;
-        others = λ k o. ap (λ b. has b k) e ∙ flag-other 9 _ _ k (outside k 9 o (omega arith) (omega arith)) ∙ flag-other 8 _ _ k (outside k 8 o (omega arith) (omega arith)) ∙ flag-other 7 _ _ k (outside k 7 o (omega arith) (omega arith)) ∙ flag-other 6 _ _ k (outside k 6 o (omega arith) (omega arith));
+        aboveAlarm = ap (λ b. has b highAlarm) e ∙ flag-other lowWarning _ _ highAlarm (omega arith) ∙ flag-other highWarning _ _ highAlarm (omega arith)
+            ∙ flag-other lowAlarm _ _ highAlarm (omega arith) ∙ flag-now highAlarm _ _;
+        belowAlarm = ap (λ b. has b lowAlarm) e ∙ flag-other lowWarning _ _ lowAlarm (omega arith) ∙ flag-other highWarning _ _ lowAlarm (omega arith) ∙ flag-now lowAlarm _ _;
+        aboveWarning = ap (λ b. has b highWarning) e ∙ flag-other lowWarning _ _ highWarning (omega arith) ∙ flag-now highWarning _ _;
+        belowWarning = ap (λ b. has b lowWarning) e ∙ flag-now lowWarning _ _;
+        others = λ k o. ap (λ b. has b k) e ∙ flag-other lowWarning _ _ k (outside k lowWarning o (omega arith) (omega arith))
+            ∙ flag-other highWarning _ _ k (outside k highWarning o (omega arith) (omega arith))
+            ∙ flag-other lowAlarm _ _ k (outside k lowAlarm o (omega arith) (omega arith))
+            ∙ flag-other highAlarm _ _ k (outside k highAlarm o (omega arith) (omega arith));
       }
 
   pub sampled-keeps-stages : (m : ℕ) → m < 8 → stageAt (stepOn room s (Sample l p) bytes .state .working) m ≡ stageAt (s .working) m

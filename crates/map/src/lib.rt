@@ -1,9 +1,9 @@
 // The register map in code: where each page and each lane register starts, and which bytes of the image keep a write, are cleared by a read, or are kept by start.
 ghost use mathlib.Core.Path.{_≡_};
 ghost use Prim.Native.Nat.{_+_, _≤_, _<_};
-ghost use lib.Dec.{leb};
+ghost use lib.Dec.{leb, ltb};
 ghost use Rattle.bits.specs.Choice.{both};
-ghost use Rattle.model.specs.Map.{imageLength, pageLength, on, lastingCount, lastingFlag, lastingIndex, writable, clearing, kept};
+ghost use Rattle.model.specs.Map.{imageLength, pageLength, on, flagBytes, flagByteCount, lastingCount, lastingFlag, lastingIndex, writable, clearing, kept};
 
 // The image: lower memory, then six pages; a page's addresses start at UPPER.
 pub const IMAGE_LENGTH: usize = 896;
@@ -64,12 +64,17 @@ pub const FLAG_BYTES: usize = PAGE_11 + (134 - 128);
 
 pub const FLAG_BYTE_COUNT: u8 = 20;
 
-// .. the flags that can last, counted from 0: the address of each of the first four is FIRST_LASTING and its number, of each other LATER_LASTING and its number.
+// .. the flags that can last, counted from 0: the address of each of the first, those of Tx, is FIRST_LASTING and its number, of each other, those of Rx, LATER_LASTING
+// and its number.
 pub const LASTING_COUNT: u8 = 10;
+
+const TX_LASTING_COUNT: u8 = 4;
 
 pub const FIRST_LASTING: u8 = 135;
 
 pub const LATER_LASTING: u8 = 143;
+
+const FIRST_RX_LASTING: u8 = LATER_LASTING + TX_LASTING_COUNT;
 
 pub const STATUSES: usize = PAGE_11 + (202 - 128);
 
@@ -90,7 +95,7 @@ pub fn lasting_flag(k: u8) -> u8
     requires { ⌜ k < lastingCount ⌝ }
     ensures { λ r. ⌜ r ≡ lastingFlag k ⌝ }
 {
-    if k < 4 {
+    if k < TX_LASTING_COUNT {
         FIRST_LASTING + k
     } else {
         LATER_LASTING + k
@@ -102,11 +107,19 @@ pub fn lasting_index(flag: u8) -> u8
     requires { ⌜ (135 ≤ flag) × (flag ≤ 152) ⌝ }
     ensures { λ r. ⌜ r ≡ lastingIndex flag ⌝ }
 {
-    if flag < 147 {
+    if flag < FIRST_RX_LASTING {
         flag - FIRST_LASTING
     } else {
         flag - LATER_LASTING
     }
+}
+
+// Whether one of n bytes from an index on is a flag byte of page 11h.
+pub fn meets_flags(i: usize, n: usize) -> bool
+    requires { ⌜ i + n ≤ imageLength ⌝ }
+    ensures { λ r. ⌜ r ≡ both (ltb i (flagBytes + flagByteCount)) (ltb flagBytes (i + n)) ⌝ }
+{
+    (i < FLAG_BYTES + (FLAG_BYTE_COUNT as usize)) & (FLAG_BYTES < i + n)
 }
 
 // Whether an index is one of from .. to.

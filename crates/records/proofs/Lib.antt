@@ -1,2 +1,3 @@
 -- A loop over the records.
+pub mod Fields
 pub mod Stages

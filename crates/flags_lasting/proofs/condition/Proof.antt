@@ -4,7 +4,7 @@ use mathlib.Core.Path.{ap, _∙_}
 use native.Mathlib.Omega.{arith}
 use Rattle.model.specs.Records.{onAt, withOns}
 use Rattle.model.specs.Flags.{conditionOn, lastingState}
-use Rattle.flags.proofs.Conditions.{condition-among}
+use Rattle.model.proofs.Lasting.{condition-among}
 use Rattle.flags_lasting.proofs.condition.Statement.{statement}
 use Rattle.flags_lasting.proofs.condition.Tie as tie
 

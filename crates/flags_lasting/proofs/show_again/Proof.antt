@@ -10,11 +10,9 @@ show-again-spec =
     tie.close
     (tie.spec
     (λ c. search needs)
-    (λ c. search needs)
-    (λ c. search needs)
     (λ c κs. search needs)
-    (λ c κs. search needs)
+    (λ c. search needs)
     (λ c. search needs)
     (λ c. search needs)
     (λ c. none-on _ _ _ _ (sym (c .before .is-any-on .ensures) ∙ c .if2 .left))
-    (λ c. none-read _ _ _ _ (c .if1 .left)))
+    (λ c. none-read _ _ _ _ (sym (c .before .meets-flags .ensures) ∙ c .if1 .left)))

@@ -6,7 +6,7 @@ use borrow.Author.Tests.{not-true, not-false}
 use Rattle.model.specs.Answers.{isDone}
 use Rattle.model.specs.Step.{eventEffect}
 use Rattle.model.specs.declared.answer.Answer.the-variants.{NoSuchTarget}
-use Rattle.flags.proofs.Conditions.{condition-among}
+use Rattle.model.proofs.Lasting.{condition-among}
 use Rattle.step_answers.proofs.Outcomes.{refused-leaves, image-leaves}
 use Rattle.step_answers.proofs.Answered.{condition-nowhere, condition-done}
 use Rattle.step_module.proofs.condition.Statement.{statement}

@@ -1,2 +1,0 @@
--- The flag bytes of conditions.
-pub mod Conditions
