@@ -14,7 +14,7 @@ use Rattle.model.specs.State.{State}
 use Rattle.model.specs.Work.{early}
 use Rattle.model.specs.Start.{startedState}
 use Rattle.model.specs.Refusals.{firstOf, startRefusals, entryRefusals}
-use Rattle.model.specs.Step.{event, eventEffect, step}
+use Rattle.model.specs.Step.{eventEffect, step}
 use Rattle.contracts.specs.Contracts.{IsOutcome}
 use Rattle.model.specs.Outcome.{unchangedOutcome, startOutcomeBy, startOutcome, stepOutcome, callOutcomeBy, callOutcome}
 use Rattle.model.specs.declared.answer.Answer.{Answer}
@@ -62,7 +62,7 @@ module _ (s : State) (buffer : List ℕ) (e : Event) (r : Returned) where
   left-empty y (x ∷ b) n h = absurd (omega arith)
 
 -- an event that is no write needs no bytes
-pub bytes-unused : (s : State) (buffer bytes : List ℕ) (c : Call) (r : Returned) (y : Image) (b : List ℕ) → eventEffect early s bytes c ≡ eventEffect early s [] c
-    → IsOutcome (callOutcome s buffer (event c bytes)) r y b → IsOutcome (callOutcome s buffer (asked c)) r y b
+pub bytes-unused : (s : State) (buffer : List ℕ) (e : Event) (c : Call) (r : Returned) (y : Image) (b : List ℕ) → e .call ≡ c
+    → eventEffect early s (e .bytes) c ≡ eventEffect early s [] c → IsOutcome (callOutcome s buffer e) r y b → IsOutcome (callOutcome s buffer (asked c)) r y b
 unfolding callOutcome callOutcomeBy step
-bytes-unused s buffer bytes c r y b q h = rw q at h
+bytes-unused s buffer e c r y b p q h = rw (p, q) at h

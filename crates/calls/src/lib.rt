@@ -3,9 +3,7 @@ ghost use mathlib.Core.List.{[]};
 ghost use Rattle.contracts.specs.Contracts.{IsOutcome};
 ghost use Rattle.model.specs.State.{stateWith};
 ghost use Rattle.model.specs.Outcome.{startOutcome, callOutcome};
-ghost use Rattle.model.specs.Step.{event};
 use contracts::Returned;
-use model::event::Call;
 use model::event::Event;
 use model::lane::Working;
 
@@ -34,9 +32,9 @@ pub fn call(image: &mut [u8], w: Working, event: Event, buffer: &mut [u8]) -> Re
 }
 
 // An event that reads nothing: no buffer is lent for it.
-pub fn without_buffer(image: &mut [u8], w: Working, asked: Call, bytes: [u8; 8]) -> Returned
-    ensures { λ r. ⌜ IsOutcome (callOutcome (stateWith (now (image .entry)) w) [] (event asked bytes)) r (now (image .exit)) [] ⌝ }
+pub fn without_buffer(image: &mut [u8], w: Working, event: Event) -> Returned
+    ensures { λ r. ⌜ IsOutcome (callOutcome (stateWith (now (image .entry)) w) [] event) r (now (image .exit)) [] ⌝ }
 {
     let mut none = [0u8; 0];
-    call(image, w, Event { call: asked, bytes }, &mut none)
+    call(image, w, event, &mut none)
 }

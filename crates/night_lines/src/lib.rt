@@ -68,7 +68,7 @@ pub fn turn(
     requires { ⌜ (length (now image) ≡ imageLength) × (length (now buffer) ≡ readLimit) × (recordLength ≤ length (now bytes)) × (reached .at + lineRoom (length (decimal index)) ≤ length (now out)) ⌝ }
     ensures { λ r. ⌜ Turns (step early listRoom (stateWith (now (image .entry)) (reached .working)) (eventOf (editionAmong laterEditions edition) (now (bytes .entry)))) index (reached .at) (now (buffer .entry)) (now (buffer .exit)) (now (out .entry)) (now (out .exit)) (now (image .exit)) r ⌝ }
 {
-    let event = night_file::event_of(bytes, edition);
+    let event = night_events::event_of(bytes, edition);
     let call = event.call;
     let asked = read_count(call);
     let at = reached.at;

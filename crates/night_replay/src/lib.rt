@@ -22,8 +22,8 @@ use model::answer::Answer;
 use model::file::FileCheck;
 use model::lane::Working;
 use night_file::IMAGE_OFFSET;
-use night_file::RECORD_LENGTH;
 use night_lines::Reached;
+use night_records::RECORD_LENGTH;
 
 // The room that a record's line asks for, and a bad line.
 const LINE_ROOM: usize = 391;
@@ -38,7 +38,7 @@ fn start_image(file: &[u8], offset: usize, image: &mut [u8])
     requires { ⌜ (offset ≡ recordsOffset (editionOf (now file))) × (offset ≤ length (now file)) × (length (now image) ≡ imageLength) ⌝ }
     ensures { λ _. ⌜ now (image .exit) ≡ (startedState (imageIn (now (file .entry)))) .image ⌝ }
 {
-    night_file::lay_out(&file[IMAGE_OFFSET..offset], image);
+    night_image::lay_out(&file[IMAGE_OFFSET..offset], image);
     start_image::reset(image)
 }
 

@@ -64,7 +64,7 @@ fn image_ahead(image: &mut [u8], f: Feeding, come: u16, records: u32, piece: &[u
     let held = c.held;
     let working = c.working;
     let n = copied_bytes(length, at, piece.len() - f.taken);
-    night_file::copy_bytes(image, at, piece, f.taken, n);
+    night_image::copy_bytes(image, at, piece, f.taken, n);
     Feeding {
         taken: f.taken + n,
         at: f.at,

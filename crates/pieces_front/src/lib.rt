@@ -113,6 +113,6 @@ pub fn take_image(
         let carried = more_image(c, come, records);
         return Taken { at, carried };
     }
-    night_file::clear_rest(image, length);
+    night_image::clear_rest(image, length);
     start(image, c, records, out, at)
 }

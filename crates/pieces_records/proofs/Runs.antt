@@ -17,7 +17,7 @@ use Rattle.model.specs.Work.{early}
 use Rattle.model.specs.Step.{step}
 use Rattle.model.specs.Outcome.{listRoom}
 use Rattle.model.specs.File.{Edition, recordLength, isRecord, eventOf}
-use Rattle.night_file.proofs.Checks.{both-left, both-right}
+use Rattle.night_records.proofs.Records.{both-left, both-right}
 use Rattle.night_lines.specs.Lines.{Turns}
 use Rattle.night_lines.specs.declared.Reached.{Reached}
 use Rattle.pieces_records.specs.Running.{Running, recordAt, canPlay, afterStep, afterRecord, runs}

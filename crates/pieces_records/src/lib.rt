@@ -7,8 +7,8 @@ ghost use Rattle.model.specs.File.{laterEditions, editionAmong};
 ghost use Rattle.pieces_records.specs.Running.{runs, running};
 use access_limits::READ_LIMIT;
 use model::lane::Working;
-use night_file::RECORD_LENGTH;
 use night_lines::Reached;
+use night_records::RECORD_LENGTH;
 
 // The longest line: an index of ten digits, an answer, 128 bytes.
 pub const LONGEST_LINE: usize = 397;
@@ -54,7 +54,7 @@ pub fn play(
             return standing_at(taken, k, reached);
         }
         let record = &bytes[taken..taken + RECORD_LENGTH];
-        if !night_file::is_record(record, edition) {
+        if !night_records::is_record(record, edition) {
             return standing_at(taken, k, reached);
         }
         reached = night_lines::turn(image, reached, &mut buffer, record, edition, k, out);

@@ -7,12 +7,8 @@ ghost use Rattle.model.specs.Step.{event};
 ghost use Rattle.model.specs.declared.event.Call.the-variants.{Write, Read, Work, Hardware, Condition, Sample, Lasting};
 ghost use Rattle.contracts.specs.Asked.{asked};
 use contracts::Returned;
-use model::event::Call;
 use model::event::Event;
 use model::lane::Working;
-
-// The bytes of an event that carries none.
-const NO_BYTES: [u8; 8] = [0; 8];
 
 // Start with an image: what stays of it, and all lanes idle.
 pub fn start(image: &mut [u8]) -> Returned
@@ -32,51 +28,47 @@ pub fn call(image: &mut [u8], w: Working, event: Event, buffer: &mut [u8]) -> Re
 pub fn write(image: &mut [u8], w: Working, address: u8, count: u8, bytes: [u8; 8]) -> Returned
     ensures { λ r. ⌜ IsOutcome (callOutcome (stateWith (now (image .entry)) w) [] (event (Write address count) bytes)) r (now (image .exit)) [] ⌝ }
 {
-    calls::without_buffer(image, w, Call::Write { address, count }, bytes)
+    calls::without_buffer(image, w, asked_events::write(address, count, bytes))
 }
 
 // A host read of count bytes into the front of a buffer.
 pub fn read(image: &mut [u8], w: Working, address: u8, count: u8, buffer: &mut [u8]) -> Returned
     ensures { λ r. ⌜ IsOutcome (callOutcome (stateWith (now (image .entry)) w) (now (buffer .entry)) (asked (Read address count))) r (now (image .exit)) (now (buffer .exit)) ⌝ }
 {
-    let event = Event {
-        call: Call::Read { address, count },
-        bytes: NO_BYTES,
-    };
-    calls::call(image, w, event, buffer)
+    calls::call(image, w, asked_events::read(address, count), buffer)
 }
 
 // A work step on a lane.
 pub fn work(image: &mut [u8], w: Working, lane: u8) -> Returned
     ensures { λ r. ⌜ IsOutcome (callOutcome (stateWith (now (image .entry)) w) [] (asked (Work lane))) r (now (image .exit)) [] ⌝ }
 {
-    calls::without_buffer(image, w, Call::Work { lane }, NO_BYTES)
+    calls::without_buffer(image, w, asked_events::work(lane))
 }
 
 // A hardware event on the path of a lane.
 pub fn hardware(image: &mut [u8], w: Working, lane: u8) -> Returned
     ensures { λ r. ⌜ IsOutcome (callOutcome (stateWith (now (image .entry)) w) [] (asked (Hardware lane))) r (now (image .exit)) [] ⌝ }
 {
-    calls::without_buffer(image, w, Call::Hardware { lane }, NO_BYTES)
+    calls::without_buffer(image, w, asked_events::hardware(lane))
 }
 
 // A condition that comes once, and sets bits of a flag byte.
 pub fn condition(image: &mut [u8], w: Working, flag: u8, mask: u8) -> Returned
     ensures { λ r. ⌜ IsOutcome (callOutcome (stateWith (now (image .entry)) w) [] (asked (Condition flag mask))) r (now (image .exit)) [] ⌝ }
 {
-    calls::without_buffer(image, w, Call::Condition { flag, mask }, NO_BYTES)
+    calls::without_buffer(image, w, asked_events::condition(flag, mask))
 }
 
 // A condition that lasts: it begins on the lanes of one mask and ends on those of the other.
 pub fn lasting(image: &mut [u8], w: Working, flag: u8, on: u8, off: u8) -> Returned
     ensures { λ r. ⌜ IsOutcome (callOutcome (stateWith (now (image .entry)) w) [] (asked (Lasting flag on off))) r (now (image .exit)) [] ⌝ }
 {
-    calls::without_buffer(image, w, Call::Lasting { flag, on, off }, NO_BYTES)
+    calls::without_buffer(image, w, asked_events::lasting(flag, on, off))
 }
 
 // A sample of a lane's received power.
 pub fn sample(image: &mut [u8], w: Working, lane: u8, power: u16) -> Returned
     ensures { λ r. ⌜ IsOutcome (callOutcome (stateWith (now (image .entry)) w) [] (asked (Sample lane power))) r (now (image .exit)) [] ⌝ }
 {
-    calls::without_buffer(image, w, Call::Sample { lane, power }, NO_BYTES)
+    calls::without_buffer(image, w, asked_events::sample(lane, power))
 }

@@ -4,7 +4,8 @@ use mathlib.Core.Path.{refl, sym}
 use lib.ListN.{getD}
 use Rattle.model.specs.File.{isWholeLength}
 use Rattle.model.proofs.Editions.{edition-fits}
-use Rattle.night_file.proofs.Checks.{joined, short-frame}
+use Rattle.night_records.proofs.Records.{joined}
+use Rattle.night_file.proofs.Checks.{short-frame}
 use borrow.Author.Needs.{needs}
 use Rattle.night_file.proofs.is_framed.Statement.{statement}
 use Rattle.night_file.proofs.is_framed.Tie as tie

@@ -4,7 +4,7 @@ use mathlib.Core.Path.{refl}
 use lib.ListN.{getD}
 use Rattle.model.specs.File.{isHeader}
 use Rattle.model.proofs.Editions.{edition-fits}
-use Rattle.night_file.proofs.Checks.{joined}
+use Rattle.night_records.proofs.Records.{joined}
 use borrow.Author.Needs.{needs}
 use Rattle.night_file.proofs.is_header.Statement.{statement}
 use Rattle.night_file.proofs.is_header.Tie as tie

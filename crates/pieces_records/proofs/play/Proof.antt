@@ -10,7 +10,7 @@ use Rattle.model.specs.Map.{Image, imageLength}
 use Rattle.model.specs.Access.{readLimit}
 use Rattle.model.specs.State.{stateWith}
 use Rattle.model.specs.File.{Edition, laterEditions, editionAmong}
-use Rattle.night_file.proofs.Checks.{part-from}
+use Rattle.night_records.proofs.Records.{part-from}
 use Rattle.night_text.proofs.Laid.{puts-within}
 use Rattle.night_text.proofs.Lines.{length-any-index}
 use Rattle.pieces_records.specs.Running.{Running, canPlay, runs, running}

@@ -8,4 +8,4 @@ use Rattle.registers.proofs.condition.Tie as tie
 
 pub condition-spec : {M : Type 1} → statement M
 unfolding eventEffect
-condition-spec = tie.close (tie.spec (λ c κs. search needs) (λ c. search needs) (λ c. bytes-unused _ _ _ _ _ _ _ refl (c .before .before .without-buffer .ensures)))
+condition-spec = tie.close (tie.spec (λ c κs. search needs) (λ c κs. search needs) (λ c. search needs) (λ c. bytes-unused _ _ _ _ _ _ _ (c .before .before .before .condition .ensures) refl (c .before .before .without-buffer .ensures)))

@@ -8,4 +8,4 @@ use Rattle.registers.proofs.hardware.Tie as tie
 
 pub hardware-spec : {M : Type 1} → statement M
 unfolding eventEffect
-hardware-spec = tie.close (tie.spec (λ c κs. search needs) (λ c. search needs) (λ c. bytes-unused _ _ _ _ _ _ _ refl (c .before .before .without-buffer .ensures)))
+hardware-spec = tie.close (tie.spec (λ c κs. search needs) (λ c κs. search needs) (λ c. search needs) (λ c. bytes-unused _ _ _ _ _ _ _ (c .before .before .before .hardware .ensures) refl (c .before .before .without-buffer .ensures)))

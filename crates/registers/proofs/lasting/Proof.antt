@@ -8,4 +8,4 @@ use Rattle.registers.proofs.lasting.Tie as tie
 
 pub lasting-spec : {M : Type 1} → statement M
 unfolding eventEffect
-lasting-spec = tie.close (tie.spec (λ c κs. search needs) (λ c. search needs) (λ c. bytes-unused _ _ _ _ _ _ _ refl (c .before .before .without-buffer .ensures)))
+lasting-spec = tie.close (tie.spec (λ c κs. search needs) (λ c κs. search needs) (λ c. search needs) (λ c. bytes-unused _ _ _ _ _ _ _ (c .before .before .before .lasting .ensures) refl (c .before .before .without-buffer .ensures)))

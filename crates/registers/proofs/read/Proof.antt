@@ -8,4 +8,4 @@ use Rattle.registers.proofs.read.Tie as tie
 
 pub read-spec : {M : Type 1} → statement M
 unfolding eventEffect
-read-spec = tie.close (tie.spec (λ c κs. search needs) (λ c. search needs) (λ c. search needs) (λ c. bytes-unused _ _ _ _ _ _ _ refl (c .before .before .before .before .call .ensures)))
+read-spec = tie.close (tie.spec (λ c κs. search needs) (λ c κs. search needs) (λ c. search needs) (λ c. search needs) (λ c. bytes-unused _ _ _ _ _ _ _ (c .before .before .before .before .before .before .read .ensures) refl (c .before .before .before .before .call .ensures)))

@@ -8,4 +8,4 @@ use Rattle.registers.proofs.sample.Tie as tie
 
 pub sample-spec : {M : Type 1} → statement M
 unfolding eventEffect
-sample-spec = tie.close (tie.spec (λ c κs. search needs) (λ c. search needs) (λ c. bytes-unused _ _ _ _ _ _ _ refl (c .before .before .without-buffer .ensures)))
+sample-spec = tie.close (tie.spec (λ c κs. search needs) (λ c κs. search needs) (λ c. search needs) (λ c. bytes-unused _ _ _ _ _ _ _ (c .before .before .before .sample .ensures) refl (c .before .before .without-buffer .ensures)))

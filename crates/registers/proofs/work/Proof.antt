@@ -8,4 +8,4 @@ use Rattle.registers.proofs.work.Tie as tie
 
 pub work-spec : {M : Type 1} → statement M
 unfolding eventEffect
-work-spec = tie.close (tie.spec (λ c κs. search needs) (λ c. search needs) (λ c. bytes-unused _ _ _ _ _ _ _ refl (c .before .before .without-buffer .ensures)))
+work-spec = tie.close (tie.spec (λ c κs. search needs) (λ c κs. search needs) (λ c. search needs) (λ c. bytes-unused _ _ _ _ _ _ _ (c .before .before .before .work .ensures) refl (c .before .before .without-buffer .ensures)))

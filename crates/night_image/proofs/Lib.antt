@@ -1,0 +1,2 @@
+-- The laws of an image that is laid out.
+pub mod Images

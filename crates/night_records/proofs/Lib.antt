@@ -1,0 +1,2 @@
+-- The laws of a record.
+pub mod Records
