@@ -22,6 +22,8 @@ use Rattle.model.specs.declared.event.Event.{Event}
 use Rattle.model.specs.declared.lane.Working.{Working}
 use Rattle.contracts.specs.declared.Returned.{Returned}
 use Rattle.laws_list.proofs.Admission.{list-fits}
+use Rattle.list_runs.specs.declared.Run.{Run}
+use Rattle.list_runs.specs.Runs.{notedRun, notedAnswers}
 use Rattle.list_turns.specs.Turns.{Playing, beginBy, beginOf, turnBy, turnOf, turnsOf, playedOf}
 
 -- ---- the admission
@@ -135,8 +137,8 @@ played-leaves es x answers w s e = split (isDone (admission (length es) x answer
     (record { answer = refl; image = refl; working = refl; buffer = refl; mask = refl }))
 
 -- a turn from what its step left
-pub turn-leaves : (e : Event) (s : Playing) (l k : Returned) (y buffer after : List ℕ) (room v : ℕ) → room ≡ listRoom → IsOutcome (stepOutcome (step early room (stateOf s) e) buffer) l y after
-    → v ≡ number (l .answer) → k ≡ record { answer = s .r .left .answer; mask = 0; working = l .working }
-    → record { image = y; answers = set (s .answers) (s .r .at) v; r = record { left = k; at = s .r .at + 1; end = s .r .end } } ≡ turnOf e s
+pub turn-leaves : (e : Event) (s : Playing) (l : Returned) (q : Run) (y buffer after answers : List ℕ) (room : ℕ) → room ≡ listRoom
+    → IsOutcome (stepOutcome (step early room (stateOf s) e) buffer) l y after → q ≡ notedRun (s .r) (l .working) → answers ≡ notedAnswers (s .r) (l .answer) (s .answers)
+    → record { image = y; answers = answers; r = q } ≡ turnOf e s
 unfolding turnOf turnBy stepOutcome
-turn-leaves e s l k y buffer after room v n h p q = rw (← n, p, q, h .image, h .answer, h .working)
+turn-leaves e s l q y buffer after answers room n h p a = rw (← n, p, a, h .image, h .answer, h .working)

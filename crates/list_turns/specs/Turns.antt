@@ -1,10 +1,10 @@
 -- A list of events turn by turn: the admission, one turn, and the turns of all events that are admitted.
-use Prim.Native.Nat.{ℕ, _+_}
+use Prim.Native.Nat.{ℕ}
 use mathlib.Core.List.{List, [], _∷_}
-use lib.ListN.{length, set, take}
+use lib.ListN.{length, take}
 use Rattle.bits.specs.Choice.{pick}
 use Rattle.model.specs.Map.{Image}
-use Rattle.model.specs.Answers.{number, isDone}
+use Rattle.model.specs.Answers.{isDone}
 use Rattle.model.specs.Work.{early}
 use Rattle.model.specs.Refusals.{firstOf, listRefusals}
 use Rattle.model.specs.Step.{Stepped, step}
@@ -13,20 +13,14 @@ use Rattle.model.specs.Outcome.{listRoom}
 use Rattle.model.specs.declared.answer.Answer.{Answer}
 use Rattle.model.specs.declared.event.Event.{Event}
 use Rattle.model.specs.declared.lane.Working.{Working}
-use Rattle.list_turns.specs.declared.Run.{Run}
+use Rattle.list_runs.specs.declared.Run.{Run}
+use Rattle.list_runs.specs.Runs.{startRun, notedRun, notedAnswers}
 
 -- the image, the answers, and where the list stands
 pub record Playing : Type 0 where
   pub image : Image
   pub answers : List ℕ
   pub r : Run
-
--- a list at its start, with a count of events to be done
-abbrev pub startRun : Answer → ℕ → Working → Run
-startRun a n w = record { left = record { answer = a; mask = 0; working = w }; at = 0; end = n }
-
-abbrev pub refusedRun : Answer → Working → Run
-refusedRun a w = startRun a 0 w
 
 -- n events with an answer: all are to be done, or none
 unfoldable pub beginBy : Answer → ℕ → Image → List ℕ → Working → Playing
@@ -40,8 +34,8 @@ unfoldable pub turnBy : Stepped → Playing → Playing
 turnBy o s =
     record {
       image = o .state .image;
-      answers = set (s .answers) (s .r .at) (number (o .answer));
-      r = record { left = record { answer = s .r .left .answer; mask = 0; working = o .state .working }; at = s .r .at + 1; end = s .r .end };
+      answers = notedAnswers (s .r) (o .answer) (s .answers);
+      r = notedRun (s .r) (o .state .working);
     }
 
 unfoldable pub turnOf : Event → Playing → Playing

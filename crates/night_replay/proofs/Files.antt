@@ -18,7 +18,7 @@ use Rattle.model.specs.Night.{nightOf, printedTextBy, printedUpTo, printedText}
 use Rattle.model.specs.declared.answer.Answer.{Answer}
 use Rattle.model.specs.declared.file.FileCheck.the-variants.{Refused, Good}
 use Rattle.night_file.proofs.Checks.{framed-length}
-use Rattle.night_replay.specs.Replay.{textAfter}
+use Rattle.night_play.specs.Playing.{textAfter}
 
 -- a good file has its whole length, and its count is its header's
 pub record IsGood (file : List ℕ) (count : ℕ) : Type 0 where

@@ -16,9 +16,10 @@ use Rattle.model.specs.Night.{linesFrom, printedText}
 use Rattle.model.specs.declared.file.FileCheck.{FileCheck}
 use Rattle.model.specs.declared.file.FileCheck.the-variants.{Refused, Good}
 use Rattle.night_text.proofs.Lines.{bad-most, number-lt}
-use Rattle.night_replay.specs.Replay.{roomFor, textAfter}
+use Rattle.night_play.specs.Playing.{textAfter}
+use Rattle.night_play.proofs.Records.{stepOf, text-next, night-line-fits}
+use Rattle.night_replay.specs.Replay.{roomFor}
 use Rattle.night_replay.proofs.Files.{good-file, prints-refused, prints-night}
-use Rattle.night_replay.proofs.Records.{stepOf, text-next, night-line-fits}
 
 -- 391 bytes a record
 text-fits : (s : State) (file : List ℕ) (k : ℕ) → k ≤ recordLimit → length (textAfter s file k) ≤ lineRoom 4 * k

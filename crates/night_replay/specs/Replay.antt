@@ -1,19 +1,8 @@
--- A night file replayed into a lent buffer: the room that it asks for, and its text on the way.
+-- A night file replayed into a lent buffer: the room that it asks for.
 use Prim.Native.Nat.{ℕ, _*_}
-use mathlib.Core.List.{List}
 use Rattle.night_text.specs.Buffer.{lineRoom}
-use Rattle.bits.specs.Loop.{tab}
-use Rattle.model.specs.State.{State}
-use Rattle.model.specs.Work.{early}
-use Rattle.model.specs.Step.{run, ending}
-use Rattle.model.specs.Outcome.{listRoom}
-use Rattle.model.specs.File.{editionOf, recordIn, eventOf}
-use Rattle.model.specs.Night.{linesFrom}
-use Rattle.model.specs.declared.event.Event.{Event}
 use Rattle.model.specs.declared.file.FileCheck.{FileCheck}
 use Rattle.model.specs.declared.file.FileCheck.the-variants.{Refused, Good}
-
--- ---- the room asked for
 
 -- the line of a file that is not replayed
 abbrev pub badRoom : ℕ
@@ -22,16 +11,3 @@ badRoom = 7
 unfoldable pub roomFor : FileCheck → ℕ
 roomFor (Refused a) = badRoom
 roomFor (Good count) = lineRoom 4 * count
-
--- ---- on the way
-
--- the event of record k of a file
-abbrev pub eventIn : List ℕ → ℕ → Event
-eventIn file k = eventOf (editionOf file) (recordIn file k)
-
--- the state after the first k records of a file, and the text of these
-unfoldable pub stateAfter : State → List ℕ → ℕ → State
-stateAfter s file k = ending early listRoom s (tab k (eventIn file))
-
-unfoldable pub textAfter : State → List ℕ → ℕ → List ℕ
-textAfter s file k = linesFrom 0 (run early listRoom s (tab k (eventIn file)))

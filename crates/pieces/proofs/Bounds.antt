@@ -15,9 +15,9 @@ use Rattle.night_text.specs.Buffer.{longestLine}
 use Rattle.pieces_carried.specs.declared.Carried.{Carried}
 use Rattle.pieces.specs.declared.Fed.{Fed}
 use Rattle.pieces.specs.Feeding.{FeedLeft, unchanged, leftAt, feedRefusals, feedLeftBy, feedLeft, atEnd, endLeft, IsFed}
-use Rattle.pieces.proofs.Joined.{feed-is-fed, feed-moves}
+use Rattle.pieces_going.proofs.Joined.{feed-is-fed, feed-moves}
 use Rattle.pieces.proofs.Left.{left-done, end-short, end-done}
-use Rattle.pieces.proofs.Longest.{ended-most}
+use Rattle.pieces_going.proofs.Longest.{ended-most}
 
 record IsWithin (piece out : List ℕ) (l : FeedLeft) : Type 0 where
   within : l .taken ≤ length piece

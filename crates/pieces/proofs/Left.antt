@@ -18,9 +18,11 @@ use Rattle.pieces_carried.specs.Carrying.{carriedBy, kept, IsTidy, Leaves}
 use Rattle.night_text.specs.Buffer.{longestLine}
 use Rattle.pieces_carried.specs.declared.Carried.{Carried}
 use Rattle.pieces_carried.specs.declared.Taken.{Taken}
+use Rattle.pieces_going.specs.Going.{going, atFirst}
+use Rattle.pieces_ahead.specs.declared.Feeding.{Feeding}
+use Rattle.pieces_ahead.specs.Standing.{standing}
 use Rattle.pieces.specs.declared.Fed.{Fed}
-use Rattle.pieces.specs.declared.Feeding.{Feeding}
-use Rattle.pieces.specs.Feeding.{going, atFirst, standing, IsFed, FeedLeft, unchanged, leftAt, outRefusals, feedRefusals, feedLeftBy, feedLeft, atEnd, endLeftBy, endLeft}
+use Rattle.pieces.specs.Feeding.{IsFed, FeedLeft, unchanged, leftAt, outRefusals, feedRefusals, feedLeftBy, feedLeft, atEnd, endLeftBy, endLeft}
 
 module _ (c : Carried) (x : Image) (piece out : List ℕ) where
   -- by the first refusal

@@ -1,7 +1,3 @@
--- The laws of a feed.
-pub mod Longest
+-- The laws of what a feed and the end leave.
 pub mod Bounds
-pub mod Going
-pub mod Joined
 pub mod Left
-pub mod Standing

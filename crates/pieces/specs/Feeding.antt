@@ -1,53 +1,22 @@
--- All that a feed and the end leave: bytes are taken one after the other while the output has room for a longest line.
-use Prim.Native.Nat.{ℕ, suc, _+_, _≤_}
+-- All that a feed and the end leave.
+use Prim.Native.Nat.{ℕ}
 use mathlib.Core.Path.{_≡_}
 use mathlib.Core.List.{List, [], _∷_}
 use lib.Dec.{ltb}
-use lib.ListN.{length, drop}
+use lib.ListN.{length}
 use Rattle.bits.specs.Choice.{pick}
 use Rattle.model.specs.Map.{Image}
 use Rattle.model.specs.Answers.{isDone}
 use Rattle.model.specs.Refusals.{Refusal, refuse, firstOf, wrongLength}
 use Rattle.model.specs.Stream as stream
-use Rattle.model.specs.Stream.{took, ended}
+use Rattle.model.specs.Stream.{ended}
 use Rattle.model.specs.declared.answer.Answer.{Answer}
 use Rattle.model.specs.declared.answer.Answer.the-variants.{WrongLength, ShortBuffer}
 use Rattle.night_text.specs.Buffer.{laidAt, longestLine}
-use Rattle.model.specs.declared.stream.Phase.the-variants.{InRecords}
-use Rattle.pieces_records.specs.declared.Played.{Played}
-use Rattle.pieces_carried.specs.Carrying.{carriedBy, padded, kept, IsTidy}
+use Rattle.pieces_carried.specs.Carrying.{carriedBy, kept}
 use Rattle.pieces_carried.specs.declared.Carried.{Carried}
+use Rattle.pieces_going.specs.Going.{Going, going, atFirst}
 use Rattle.pieces.specs.declared.Fed.{Fed}
-use Rattle.pieces.specs.declared.Feeding.{Feeding}
-
--- where a feed stands: the bytes taken and printed, what is carried, and the output
-pub record Going : Type 0 where
-  pub taken : ℕ
-  pub printed : ℕ
-  pub carried : stream.Carried
-  pub out : List ℕ
-
--- a byte is taken, and its text laid into the output
-unfoldable pub afterByte : Going → ℕ → Going
-afterByte g b =
-    let t = took (g .carried) b in
-    record {
-      taken = suc (g .taken);
-      printed = g .printed + length (t .text);
-      carried = t .carried;
-      out = laidAt (g .printed) (t .text) (g .out);
-    }
-
--- byte after byte, while the output has room for a longest line
-unfoldable pub going : Going → List ℕ → Going
-going g [] = g
-going g (b ∷ bytes) = pick (ltb (length (g .out)) (g .printed + longestLine)) g (going (afterByte g b) bytes)
-
--- before the first byte of a piece
-abbrev pub atFirst : stream.Carried → List ℕ → Going
-atFirst c out = record { taken = 0; printed = 0; carried = c; out = out }
-
--- ---- all that is left
 
 pub record FeedLeft : Type 0 where
   pub answer : Answer
@@ -108,34 +77,3 @@ pub record IsFed (l : FeedLeft) (r : Fed) (imageLeft : Image) (outLeft : List �
   pub carried : r .carried ≡ l .carried
   pub image : imageLeft ≡ l .image
   pub out : outLeft ≡ l .out
-
--- ---- on the way
-
--- where the code of a feed stands
-abbrev pub standing : Feeding → Image → List ℕ → Going
-standing f x out = record { taken = f .taken; printed = f .at; carried = carriedBy (f .carried) x; out = out }
-
--- between two records nothing is held
-unfoldable pub betweenRecords : ℕ → ℕ → Played → Feeding
-betweenRecords edition records p =
-    record {
-      taken = p .taken;
-      at = p .at;
-      carried = record { phase = InRecords (p .next) records; edition = edition; held = padded []; count = 0; working = p .working };
-    }
-
--- the code of a feed may stand here
-pub record Stands (f : Feeding) (piece out : List ℕ) : Type 0 where
-  pub tidy : IsTidy (f .carried)
-  pub within : f .taken ≤ length piece
-  pub fits : f .at ≤ length out
-
--- it goes on from one place to another: what is still to come makes the same of both
-pub record Goes (piece : List ℕ) (g : Going) (f : Feeding) (x : Image) (out : List ℕ) : Type 0 where
-  pub stands : Stands f piece out
-  pub onward : g .taken ≤ f .taken
-  pub same : going (standing f x out) (drop (f .taken) piece) ≡ going g (drop (g .taken) piece)
-
--- .. without a word, whatever the output holds, if it has room for a longest line
-abbrev pub GoesSilently : List ℕ → Feeding → Image → Feeding → Image → Type 0
-GoesSilently piece f x f′ x′ = (out : List ℕ) → f .at + longestLine ≤ length out → Goes piece (standing f x out) f′ x′ out

@@ -52,7 +52,7 @@ use denote.Exit.{yes}
 use Rattle.list_turns.specs.Turns.{Playing, beginOf, turnOf, turnsOf}
 use Rattle.contracts.specs.declared.Returned.{Returned}
 use Rattle.model.specs.declared.event.Event.{Event}
-use Rattle.list_turns.specs.declared.Run.{Run}
+use Rattle.list_runs.specs.declared.Run.{Run}
 use Rattle.model.specs.declared.lane.Working.{Working}
 use Rattle.contracts.proofs.Returned as L
 use Rattle.contracts.proofs.Returned.Laws as L′
@@ -62,8 +62,8 @@ use Rattle.model.proofs.lane.Working as S
 use Rattle.model.proofs.lane.Working.Laws as S′
 use Rattle.list_play.proofs.Again.{LentAgain, lends-at, back-at}
 use Rattle.list_turns.proofs.Laws.{none, begin-at, begin-end, begin-room, begin-length, turn-at, turn-end, turns-next, turns-end, played-leaves}
-use Rattle.list_turns.proofs.Run as R
-use Rattle.list_turns.proofs.Run.Laws as R′
+use Rattle.list_runs.proofs.Run as R
+use Rattle.list_runs.proofs.Run.Laws as R′
 use Rattle.list_turns.proofs.begin as begin
 use Rattle.list_turns.proofs.begin.Symbol as begin-def
 use Rattle.list_turns.proofs.begin.Symbol.{name as #turns·begin}

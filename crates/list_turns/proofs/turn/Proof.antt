@@ -8,9 +8,9 @@ use Rattle.list_turns.proofs.turn.Tie as tie
 returns : tie.Need-returns
 returns c =
     turn-leaves _ _ _ _ _ _ _ _ _ refl
-    (c .before .before .before .before .before .before .step .ensures)
-    (c .number .ensures)
-    (c .before .reply .ensures)
+    (c .before .before .before .before .before .before .before .before .step .ensures)
+    (c .before .before .noted .ensures .0)
+    (c .before .before .noted .ensures .1)
 
 pub turn-spec : {M : Type 1} → statement M
 turn-spec =
@@ -19,9 +19,6 @@ turn-spec =
     (λ c. search needs)
     (λ c κs. search needs)
     (λ c κs. search needs)
-    (λ c κs. search needs)
-    (λ c. search needs)
-    (λ c. search needs)
     (λ c. search needs)
     (λ c. search needs)
     returns)

@@ -1,7 +1,7 @@
 -- `night_replay::print_good` meets its contract. Assumes nothing.
 use native.Mathlib.Omega.{arith}
 use mathlib.Core.Path.{refl}
-use Rattle.night_replay.proofs.Buffers.{gives-none, gives-text}
+use Rattle.night_buffers.proofs.Buffers.{gives-none, gives-text}
 use Rattle.night_replay.proofs.Files.{good-file, prints-night}
 use borrow.Author.Needs.{needs}
 use Rattle.night_replay.proofs.print_good.Statement.{statement}

@@ -3,7 +3,7 @@ use mathlib.Core.List.{[]}
 use borrow.Author.Needs.{needs}
 use Rattle.model.specs.declared.answer.Answer.the-variants.{ShortBuffer}
 use Rattle.pieces.proofs.Left.{end-short, fed-unchanged, fed-ended}
-use Rattle.pieces.proofs.Standing.{tidied-tidy, tidied-same}
+use Rattle.pieces_onward.proofs.Standing.{tidied-tidy, tidied-same}
 use Rattle.pieces.proofs.finish.Statement.{statement}
 use Rattle.pieces.proofs.finish.Tie as tie
 

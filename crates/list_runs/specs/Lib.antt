@@ -1,0 +1,2 @@
+-- Where a list of events stands.
+pub mod Runs

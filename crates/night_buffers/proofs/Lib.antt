@@ -1,0 +1,2 @@
+-- The laws of a lent buffer.
+pub mod Buffers

@@ -1,0 +1,2 @@
+-- The laws of one record more.
+pub mod Records

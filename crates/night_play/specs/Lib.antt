@@ -1,0 +1,2 @@
+-- The records of a night file, played.
+pub mod Playing

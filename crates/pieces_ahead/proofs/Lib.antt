@@ -1,0 +1,2 @@
+-- The laws of a feed that goes ahead.
+pub mod Stretches

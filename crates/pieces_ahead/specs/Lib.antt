@@ -1,0 +1,2 @@
+-- Where the code of a feed stands.
+pub mod Standing

@@ -1,0 +1,4 @@
+-- The laws of a feed.
+pub mod Longest
+pub mod Going
+pub mod Joined

@@ -1,0 +1,2 @@
+-- A feed, byte after byte.
+pub mod Going

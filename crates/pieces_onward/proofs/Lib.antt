@@ -1,0 +1,2 @@
+-- The laws of a feed that goes onward.
+pub mod Standing
