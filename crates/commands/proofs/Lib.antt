@@ -1,5 +1,2 @@
--- Sums of bytes, check codes, the bytes of replies, and when a write runs a command.
-pub mod Sums
-pub mod Codes
-pub mod Replies
+-- When a write runs a command.
 pub mod Runs

@@ -1,0 +1,3 @@
+-- Sums of bytes, and check codes.
+pub mod Sums
+pub mod Codes

@@ -1,0 +1,2 @@
+-- The bytes of replies.
+pub mod Replies
