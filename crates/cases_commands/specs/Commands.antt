@@ -8,7 +8,7 @@ use lib.ListN.{length}
 use Rattle.model.specs.Map.{Image}
 use Rattle.model.specs.Flags.{interrupts}
 use Rattle.model.specs.declared.event.Event.{Event}
-use Rattle.cases_starred.specs.Case.{holds, blank, holding, fourLanes, write, read, selectPage}
+use Rattle.cases.specs.Case.{holds, blank, holding, fourLanes, write, read, selectPage}
 
 -- the image of 01's example, its firmware of version 7.254
 unfoldable pub versioned : Image

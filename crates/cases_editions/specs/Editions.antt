@@ -4,22 +4,14 @@ use Prim.Native.Nat.{ℕ}
 use Prim.Native.String.{String}
 use mathlib.Core.Bool.{Bool}
 use mathlib.Core.List.{List, [], _∷_, _++_}
-use lib.ListN.{length, take}
+use lib.ListN.{take}
 use Rattle.bits.specs.Choice.{both}
-use Rattle.bits.specs.Loop.{tab}
-use Rattle.bits.specs.Word.{putWord}
-use Rattle.cases_worked.specs.Worked.{example}
-use Rattle.cases_starred.specs.Case.{blank, limited, read, sample, selectPage}
-use Rattle.cases_worked.specs.Files.{padded, recordsOf, flat}
-use Rattle.cases_streamed.specs.Streamed.{prints, printsInOne, malformed}
-
--- a header of an edition whose records begin at an offset
-unfoldable pub headed : ℕ → ℕ → ℕ → List ℕ
-headed edition offset count = putWord 4 (putWord 4 (putWord 4 (0x57 ∷ 0x4c ∷ edition ∷ tab 13 (λ i. 0)) 4 count) 8 16) 12 offset
+use Rattle.cases.specs.Case.{blank, limited, example, read, sample, selectPage}
+use Rattle.cases.specs.Files.{padded, recordsOf, headed, fileIn, flat, malformed, printsInOne, prints}
 
 -- a file of 01's example with so many bytes of its image
 unfoldable pub exampleOf : ℕ → ℕ → ℕ → List ℕ
-exampleOf edition offset bytes = headed edition offset (length (example .events)) ++ take bytes (example .image) ++ recordsOf (example .events)
+exampleOf edition offset bytes = fileIn edition offset bytes (example .image) (example .events)
 
 -- in one and in pieces the same lines
 unfoldable pub bothPrint : List ℕ → List String → Bool
@@ -63,6 +55,6 @@ conditions =
     -- past it nothing is used
     ∷ printsInOne (sensed 3 912 896 (5 ∷ 135 ∷ 0x0f ∷ []) (5 ∷ 135 ∷ 0x30 ∷ 0x3c ∷ 0x01 ∷ [])) malformed
     -- a sample lasts in every edition
-    ∷ printsInOne (headed 1 784 4 ++ take 768 (limited 1000 1000 2000 2000 blank) ++ recordsOf (sample 0 999 ∷ selectPage 0x11 ∷ read 150 1 ∷ read 150 1 ∷ []))
+    ∷ printsInOne (fileIn 1 784 768 (limited 1000 1000 2000 2000 blank) (sample 0 999 ∷ selectPage 0x11 ∷ read 150 1 ∷ read 150 1 ∷ []))
     ("0 0" ∷ "1 0" ∷ "2 0 01" ∷ "3 0 01" ∷ [])
     ∷ []

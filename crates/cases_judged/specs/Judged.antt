@@ -4,7 +4,7 @@ use mathlib.Core.List.{List, [], _∷_, _++_}
 use Rattle.bits.specs.Loop.{tab}
 use Rattle.model.specs.Map.{Image}
 use Rattle.bits.specs.Sets.{laneCount}
-use Rattle.cases_starred.specs.Case.{holds, changesNothing, blank, holding, fourLanes, on01, write, read, work, hardware, selectPage, applied}
+use Rattle.cases.specs.Case.{holds, holdsReady, changesNothing, blank, holding, fourLanes, on01, write, read, work, hardware, selectPage, applied}
 
 -- Applications 1 and 2 of one host lane each, which may begin on any lane
 unfoldable pub oneLane : Image
@@ -64,7 +64,7 @@ judged =
           ∷ "16 0" ∷ "17 0 51 55 55 15" ∷ [];
     })
     -- lanes 0-6 in the states 1, 2, 7, 5, 4, 3 and 6: passed in 1, 7 and 4, else 2
-    ∷ holds (record {
+    ∷ holdsReady (record {
       image = oneLane;
       events =
           selectPage 0x10 ∷ write 145 (0x10 ∷ 0x12 ∷ 0x14 ∷ 0x16 ∷ 0x18 ∷ 0x1a ∷ 0x1c ∷ []) ∷ write 143 (0x7f ∷ []) ∷ tab 7 (λ l. work l)
@@ -78,7 +78,7 @@ judged =
           ∷ "46 0" ∷ "47 0 21 57 34 16" ∷ "48 0 21 21 21 02" ∷ [];
     })
     -- ApplyImmediate that changes AppSel: passed in DPDeactivated, 2 in DPInitialized and DPActivated; one that keeps it there: passed; ApplyDPInit may change it
-    ∷ holds (record {
+    ∷ holdsReady (record {
       image = oneLane;
       events =
           selectPage 0x10 ∷ write 145 (0x10 ∷ 0x12 ∷ 0x14 ∷ 0x16 ∷ []) ∷ write 143 (0x0f ∷ []) ∷ tab 4 (λ l. work l) ++ tab 4 (λ l. work l)
@@ -91,7 +91,7 @@ judged =
           ∷ "28 0 21 12 00 00 20 12 14 16" ∷ "29 0" ∷ "30 0" ∷ "31 0" ∷ "32 0" ∷ "33 0" ∷ "34 0" ∷ "35 0" ∷ "36 0 11 11 00 00 20 22 24 16" ∷ [];
     })
     -- the first that applies: lane 1 has 6 before 5, lanes 2 and 3 have 5 before 2, lanes 4-6 have 7 before 6, lane 7 has 4 before 7
-    ∷ holds (record {
+    ∷ holdsReady (record {
       image = mixed;
       events =
           selectPage 0x10 ∷ write 145 (0x10 ∷ 0x10 ∷ 0x14 ∷ 0x14 ∷ 0x18 ∷ 0x18 ∷ []) ∷ write 143 (0x3f ∷ []) ∷ work 0 ∷ work 0 ∷ work 0 ∷ work 2

@@ -4,7 +4,7 @@ use mathlib.Core.Bool.{Bool}
 use mathlib.Core.List.{List, [], _∷_}
 use Rattle.model.specs.Map.{Image}
 use Rattle.model.specs.declared.event.Event.{Event}
-use Rattle.cases_starred.specs.Case.{holds, fourLanes, limited, write, read, work, condition, lasting, sample, selectPage}
+use Rattle.cases.specs.Case.{holds, fourLanes, limited, write, read, work, condition, lasting, sample, selectPage}
 
 -- the image of 01's example, its received power to lie between 1000h and 2000h
 unfoldable pub bounded : Image

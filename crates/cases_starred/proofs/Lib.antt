@@ -1,3 +1,2 @@
--- The starred cases, computed; and the test of equal states.
-pub mod Same
+-- The starred cases, computed.
 pub mod Starred

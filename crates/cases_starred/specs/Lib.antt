@@ -1,4 +1,2 @@
--- Worked cases, and the starred ones.
-pub mod Same
-pub mod Case
+-- The starred cases.
 pub mod Starred

@@ -2,7 +2,7 @@
 use mathlib.Core.Bool.{Bool}
 use mathlib.Core.List.{List, [], _∷_}
 use Rattle.model.specs.declared.event.Event.{Event}
-use Rattle.cases_starred.specs.Case.{holds, changesNothing, holding, fourLanes, limited, write, read, work, sample, selectPage, applied}
+use Rattle.cases.specs.Case.{holds, changesNothing, holding, fourLanes, limited, write, read, work, sample, selectPage, applied}
 
 -- in an image of `fourLanes`: all lanes are staged, lanes 0-3 are triggered and lane 0 is copied
 unfoldable pub halfway : List Event

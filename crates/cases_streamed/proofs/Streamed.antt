@@ -1,44 +1,12 @@
 -- The nights in pieces print what they should: the checker computes each, byte by byte and by the table of all that is printed, and compares every printed byte. Assumes nothing.
-use mathlib.Core.List.{flatten}
 use lib.Dec.{T}
-use Rattle.bits.specs.Choice.{pick, onlyIf, both, either, implies}
-use Rattle.bits.specs.Number.{field, withField}
-use Rattle.bits.specs.Place.{get, put, digit}
-use Rattle.bits.specs.Lane.{laneField}
-use Rattle.bits.specs.Loop.{each, tab, anyBelow, anyOf, allBelow, seek}
-use Rattle.bits.specs.Sets.{has, maskOf, nextIn, within, someIn, everyIn}
-use Rattle.bits.specs.Word.{word, putWord}
-use Rattle.model.specs.Map.{settingAt, inRanges, writable, clearing, kept}
-use Rattle.model.specs.PathStates.{stateOf, resting, commissioned}
-use Rattle.model.specs.Answers.{isDone}
-use Rattle.model.specs.Records.{isInProgress, isPass, isPassing, heldIn, anyInProgress, onLanes, withStage, withStages, withOn, withOns, withFlagOn, freedWorking, withVerdict, advancedWorking}
-use Rattle.model.specs.Applications.{descriptorAt, listReaches, hostLaneCount, isPresent, lookup}
-use Rattle.model.specs.View.{appSel, pathId, explicit, settingsAt, settingValues, limitsOf, settingsOf, statesOf, applicationsOf, viewOf, isUsed, samePath, pathOf}
-use Rattle.model.specs.Groups.{joined, releasedWith, inGroup, groupOf}
-use Rattle.model.specs.Verdicts.{otherAppSel, misplaced, incomplete, crossing, outOfLimits, unsupported, tooLate, wrongState, applyBy, applyVerdict, pathRelease, releaseVerdict, verdictOf}
-use Rattle.model.specs.Registers.{withStatus, withPending, withPathState, withFlags}
-use Rattle.model.specs.Triggers.{isMarked, markedStage, stageAfter, markedState, isIgnored, triggeredState}
-use Rattle.model.specs.Work.{byModule, writtenSettings, withActive, copyLane, copyNext, copyGroup, isRelease, pendingAfter, commissionMask, closedState, closingEffect, copiedState, workEffectBy, workEffectOn, workEffect}
-use Rattle.model.specs.Hardware.{someBit, toDeinit, toReinit, toDeactivate, signalsOf, nextState, isState, isInitialized, enteredImage, movedImage, movedPathImage, hardwareImage}
-use Rattle.model.specs.Flags.{isConditionFlag, conditionImage, conditionOn, lastingState, raisedImage, sampledImage, sampledOn, sampledState, isRead, shownAgainImage, isUnmasked, interrupts, settledImage}
-use Rattle.model.specs.Pages.{findPage, pageStart, selectedStart, indexOf, selectedImage}
-use Rattle.model.specs.Access.{storedState, byteWrittenState, bytesWrittenState, writes, runsCommand, endedState, shownByte, takenBytes, clearedImage, halfEnd, isBadAccess}
-use Rattle.model.specs.Start.{isStateByte, startValue, startByte, startedState}
-use Rattle.model.specs.Refusals.{firstOf, isFlat, isBackToFront, wrongLength, imageRefusals, startRefusals, noSuchLane, isBusy, isUnused, eventRefusals}
-use Rattle.model.specs.Step.{readEffect, eventEffect, doneStep, refusedStep, answeredStep, step, run}
-use Rattle.model.specs.File.{editionAmong, recordCount, isHeader, isWholeLength, carriedImage, firstBytes, recordIn, writtenBytes, usedBytes, isRecord, callOf, eventOf, eventsIn, isWellFormed, fileCheckBy, fileCheckUpTo}
-use Rattle.model.specs.Text.{ascii, digitText, decimalUpTo, decimal, hexBytes, line, badLine}
-use Rattle.model.specs.Night.{linesFrom, nightOf, printedTextBy, printedUpTo}
-use Rattle.model.specs.Stream.{hasImage, afterImage, leadingRecords, goodRecords, goodLines, isAll, streamedBy, streamed, begun, refused, tookHeader, startedBy, wholeImage, tookImage, played, tookRecord, tookIn, took, endedIn, ended, fed, fedAll}
-use Rattle.cases_starred.specs.Same.{sameBytes}
-use Rattle.cases_starred.specs.Case.{linesOf, allHold, blank, holding, fourLanes, limited}
-use Rattle.cases_worked.specs.Files.{recordOf, padded, recordsOf, headerOf, fileOf, flat}
-use Rattle.cases_streamed.specs.Streamed.{three, night, counting, longer, numbered, backToFront, cut, byteByByte, lent, feeds, prints, printsFrom, printsInOne, misheaded, noRecord, refusing, nights, refusedNights}
+use Rattle.cases.specs.Computed.{allHold}
+use Rattle.cases_streamed.specs.Streamed.{three, night, counting, longer, numbered, cut, byteByByte, printsFrom, misheaded, noneTaken, backToFront, refusing, nights, refusedNights}
 
 pub nights-hold : T (allHold nights)
-unfolding pick onlyIf both either implies field withField get put digit laneField each tab anyBelow allBelow seek has maskOf nextIn word putWord settingAt inRanges writable clearing kept stateOf resting commissioned isDone isInProgress isPass isPassing heldIn anyInProgress onLanes withStage withStages withOn withOns withFlagOn freedWorking withVerdict advancedWorking descriptorAt listReaches hostLaneCount isPresent lookup appSel pathId explicit settingsAt settingValues limitsOf settingsOf statesOf applicationsOf viewOf isUsed samePath pathOf within joined releasedWith inGroup groupOf someIn everyIn otherAppSel misplaced incomplete crossing outOfLimits unsupported tooLate wrongState applyBy applyVerdict pathRelease releaseVerdict verdictOf withStatus isMarked markedStage stageAfter markedState isIgnored triggeredState byModule writtenSettings withActive copyLane copyNext copyGroup isRelease withPending pendingAfter commissionMask closedState closingEffect copiedState workEffectBy workEffectOn workEffect someBit toDeinit toReinit toDeactivate signalsOf nextState isState withPathState withFlags isInitialized enteredImage movedImage movedPathImage hardwareImage isConditionFlag conditionImage conditionOn lastingState raisedImage sampledImage sampledOn sampledState isRead shownAgainImage isUnmasked anyOf interrupts settledImage findPage pageStart selectedStart indexOf selectedImage storedState byteWrittenState bytesWrittenState writes runsCommand endedState shownByte takenBytes clearedImage halfEnd isBadAccess isStateByte startValue startByte startedState firstOf isFlat isBackToFront wrongLength imageRefusals startRefusals noSuchLane isBusy isUnused eventRefusals readEffect eventEffect doneStep refusedStep answeredStep step run recordCount isHeader isWholeLength editionAmong carriedImage firstBytes recordIn writtenBytes usedBytes isRecord callOf eventOf eventsIn isWellFormed fileCheckBy fileCheckUpTo ascii digitText decimalUpTo decimal hexBytes line badLine linesFrom nightOf printedTextBy printedUpTo sameBytes linesOf allHold blank holding fourLanes limited recordOf padded recordsOf headerOf fileOf flat hasImage afterImage leadingRecords goodRecords goodLines isAll streamedBy streamed begun refused tookHeader startedBy wholeImage tookImage played tookRecord tookIn took endedIn ended fed fedAll flatten three night counting longer numbered backToFront cut byteByByte lent feeds prints printsFrom printsInOne misheaded noRecord refusing
+unfolding allHold three night counting longer numbered cut byteByByte printsFrom misheaded noneTaken
 nights-hold = tt
 
 pub refused-hold : T (allHold refusedNights)
-unfolding pick both either implies field get tab allBelow word putWord isDone firstOf isFlat isBackToFront wrongLength imageRefusals startRefusals recordCount isHeader isWholeLength editionAmong carriedImage firstBytes recordIn writtenBytes usedBytes isRecord isWellFormed fileCheckBy fileCheckUpTo ascii digitText decimalUpTo decimal badLine printedTextBy printedUpTo hasImage streamedBy streamed begun refused tookHeader startedBy wholeImage tookImage tookIn took endedIn ended fed fedAll sameBytes linesOf allHold blank holding limited recordOf padded recordsOf headerOf fileOf flat flatten three longer backToFront lent feeds prints printsFrom printsInOne refusing
+unfolding allHold three longer backToFront printsFrom refusing
 refused-hold = tt

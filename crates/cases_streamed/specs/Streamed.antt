@@ -3,18 +3,16 @@
 use Prim.Native.Nat.{ℕ, _-_, _%_}
 use Prim.Native.String.{String}
 use mathlib.Core.Bool.{Bool, true}
-use mathlib.Core.List.{List, [], _∷_, _++_, flatten, map}
+use mathlib.Core.List.{List, [], _∷_, _++_, map}
 use lib.ListN.{take, drop, set}
 use Rattle.bits.specs.Choice.{both}
 use Rattle.bits.specs.Loop.{tab}
 use Rattle.model.specs.Map.{Image, imageLength}
-use Rattle.model.specs.Night.{printedText}
-use Rattle.model.specs.Stream.{Carried, begun, ended, fed, fedAll, streamed}
+use Rattle.model.specs.Stream.{Carried, Took, begun, ended, fed, fedAll, streamed}
 use Rattle.model.specs.declared.event.Event.{Event}
-use Rattle.cases_starred.specs.Same.{sameBytes}
-use Rattle.cases_starred.specs.Case.{linesOf, blank, fourLanes, limited, read, work, selectPage}
-use Rattle.cases_worked.specs.Worked.{example}
-use Rattle.cases_worked.specs.Files.{padded, recordsOf, headerOf, fileOf, flat}
+use Rattle.cases.specs.Same.{sameBytes}
+use Rattle.cases.specs.Case.{linesOf, blank, fourLanes, limited, example, read, work, selectPage}
+use Rattle.cases.specs.Files.{padded, recordsOf, headerOf, fileOf, flat, malformed, printsInOne, lent, feeds, prints}
 
 -- ---- files
 
@@ -66,18 +64,6 @@ byteByByte bytes = map (λ b. b ∷ []) bytes
 
 -- ---- what is seen
 
--- what lay in the lent image before: bytes that start would refuse
-unfoldable pub lent : Image
-lent = tab imageLength (λ i. 0xff)
-
--- the pieces and the end print these lines
-unfoldable pub feeds : List (List ℕ) → List String → Bool
-feeds pieces seen = sameBytes (fedAll (begun lent) pieces .text) (linesOf seen)
-
--- .. and the table says the same of the joined pieces
-unfoldable pub prints : List (List ℕ) → List String → Bool
-prints pieces seen = both (feeds pieces seen) (sameBytes (streamed (flatten pieces)) (linesOf seen))
-
 -- a stop, when so many bytes of a file have come: the lines since the stop before, and what the end would print here
 pub record Stop : Type 0 where
   pub after : ℕ
@@ -100,14 +86,7 @@ printsFrom c come seen file (s ∷ stops) =
 abbrev pub printsAt : List ℕ → List Stop → Bool
 printsAt file stops = printsFrom (begun lent) 0 [] file stops
 
--- what 01 says of a file, which it checks first
-unfoldable pub printsInOne : List ℕ → List String → Bool
-printsInOne file seen = sameBytes (printedText file) (linesOf seen)
-
 -- ---- the cases
-
-abbrev pub malformed : List String
-malformed = "bad 9" ∷ []
 
 -- `night` and more: a line when its record is whole, 9 at each end before the last record is, 9 at a byte more, and then nothing
 abbrev pub borders : List Stop
@@ -138,9 +117,20 @@ borders =
 unfoldable pub misheaded : ℕ → ℕ → Bool
 misheaded i v = printsAt (set night i v) (stop 15 [] malformed ∷ stop 16 malformed [] ∷ stop 820 [] [] ∷ [])
 
--- a malformed record, the second of three: the line of the first, then 9, and no line of the third
-unfoldable pub noRecord : List ℕ → Bool
-noRecord bytes = prints ((headerOf 3 ++ take 768 fourLanes ++ padded (3 ∷ []) ++ padded bytes ++ padded (3 ∷ [])) ∷ []) ("0 6" ∷ "bad 9" ∷ [])
+-- kinds 0 and 7, and of each kind the first byte that it does not use; of a write the last one too
+abbrev pub noRecords : List (List ℕ)
+noRecords =
+    (0 ∷ []) ∷ (7 ∷ []) ∷ (1 ∷ 31 ∷ 1 ∷ 1 ∷ 1 ∷ []) ∷ (1 ∷ 31 ∷ 1 ∷ 1 ∷ 0 ∷ 0 ∷ 0 ∷ 0 ∷ 0 ∷ 0 ∷ 0 ∷ 1 ∷ []) ∷ (2 ∷ 31 ∷ 1 ∷ 1 ∷ []) ∷ (3 ∷ 0 ∷ 1 ∷ [])
+    ∷ (4 ∷ 0 ∷ 1 ∷ []) ∷ (5 ∷ 136 ∷ 1 ∷ 1 ∷ []) ∷ (6 ∷ 0 ∷ 1 ∷ 1 ∷ 1 ∷ []) ∷ []
+
+-- each of them the second of three records: the line of the first, then 9, and no line of the third. What comes before the records is fed once
+unfoldable pub noneTaken : List ℕ → Took → List (List ℕ) → Bool
+noneTaken front t [] = true
+noneTaken front t (bytes ∷ others) =
+    let records = padded (3 ∷ []) ++ padded bytes ++ padded (3 ∷ []) in
+    let seen = linesOf ("0 6" ∷ "bad 9" ∷ []) in
+    both (both (sameBytes (t .text ++ fedAll (t .carried) (records ∷ []) .text) seen) (sameBytes (streamed (front ++ records)) seen))
+    (noneTaken front t others)
 
 abbrev pub nights : List Bool
 nights =
@@ -167,16 +157,8 @@ nights =
     ∷ prints (longer night ∷ []) ("0 6" ∷ "1 8" ∷ "2 0 00" ∷ "bad 9" ∷ [])
     -- kind FFh in the third record, and a whole good night after it
     ∷ printsAt (set night 808 0xff ++ night) (stop 808 ("0 6" ∷ "1 8" ∷ []) malformed ∷ stop 819 [] malformed ∷ stop 820 malformed [] ∷ stop 1640 [] [] ∷ [])
-    -- kinds 0 and 7, and of each kind the first byte that it does not use; of a write the last one too
-    ∷ noRecord (0 ∷ [])
-    ∷ noRecord (7 ∷ [])
-    ∷ noRecord (1 ∷ 31 ∷ 1 ∷ 1 ∷ 1 ∷ [])
-    ∷ noRecord (1 ∷ 31 ∷ 1 ∷ 1 ∷ 0 ∷ 0 ∷ 0 ∷ 0 ∷ 0 ∷ 0 ∷ 0 ∷ 1 ∷ [])
-    ∷ noRecord (2 ∷ 31 ∷ 1 ∷ 1 ∷ [])
-    ∷ noRecord (3 ∷ 0 ∷ 1 ∷ [])
-    ∷ noRecord (4 ∷ 0 ∷ 1 ∷ [])
-    ∷ noRecord (5 ∷ 136 ∷ 1 ∷ 1 ∷ [])
-    ∷ noRecord (6 ∷ 0 ∷ 1 ∷ 1 ∷ 1 ∷ [])
+    -- what is no record, after the header and the image of `night`
+    ∷ (let front = take 784 night in noneTaken front (fed (begun lent) front) noRecords)
     -- no records: nothing is printed; 9 at a byte more
     ∷ printsAt (longer (fileOf fourLanes [])) (stop 783 [] malformed ∷ stop 784 [] [] ∷ stop 785 malformed [] ∷ [])
     -- fewer records counted than there are

@@ -1,2 +1,2 @@
--- The worked cases and night files, computed.
+-- The worked cases, computed.
 pub mod Worked

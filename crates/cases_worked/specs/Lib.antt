@@ -1,3 +1,2 @@
--- The worked cases and the night files.
+-- The worked cases.
 pub mod Worked
-pub mod Files

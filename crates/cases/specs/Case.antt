@@ -2,11 +2,10 @@
 -- (01 "Both sides of each line").
 use Prim.Native.Nat.{ℕ, suc, _+_}
 use Prim.Native.String.{String}
-use mathlib.Core.Bool.{Bool, true}
+use mathlib.Core.Bool.{Bool}
 use mathlib.Core.List.{List, [], _∷_, _++_}
-use lib.ListN.{length, set}
+use lib.ListN.{length, set, replicate}
 use Rattle.bits.specs.Choice.{pick, both}
-use Rattle.bits.specs.Loop.{tab}
 use Rattle.bits.specs.Word.{putWord}
 use Rattle.model.specs.Map.{Image, imageLength}
 use Rattle.model.specs.Answers.{number, isDone}
@@ -20,7 +19,7 @@ use Rattle.model.specs.Night.{linesFrom}
 use Rattle.model.specs.declared.answer.Answer.{Answer}
 use Rattle.model.specs.declared.event.Call.the-variants.{Write, Read, Work, Hardware, Condition, Sample, Lasting}
 use Rattle.model.specs.declared.event.Event.{Event}
-use Rattle.cases_starred.specs.Same.{sameBytes, sameState}
+use Rattle.cases.specs.Same.{sameBytes, sameState}
 
 pub record Case : Type 0 where
   pub image : Image
@@ -40,6 +39,15 @@ shownBy a c = pick (isDone a) (linesFrom 0 (run early listRoom (startedState (c 
 unfoldable pub holds : Case → Bool
 holds c = sameBytes (shownBy (firstOf (startRefusals (c .image))) c) (linesOf (c .seen))
 
+-- what brings a module from start to where its paths can be brought up
+unfoldable pub readied : List Event
+readied = []
+
+-- the case is as it should be in a module that has been brought there
+unfoldable pub holdsReady : Case → Bool
+holdsReady c =
+    sameBytes (linesFrom 0 (run early listRoom (ending early listRoom (startedState (c .image)) readied) (c .events))) (linesOf (c .seen))
+
 -- from an image, after events, one more is done and leaves the whole state as it was
 unfoldable pub changesNothing : Image → List Event → Event → Bool
 changesNothing x es e =
@@ -47,14 +55,11 @@ changesNothing x es e =
     let o = step early listRoom s e in
     both (isDone (o .answer)) (sameState (o .state) s)
 
-unfoldable pub allHold : List Bool → Bool
-allHold [] = true
-allHold (c ∷ cs) = both c (allHold cs)
-
 -- ---- images
 
+-- zeros, each computed at once: `tab` goes through all that comes before a byte
 unfoldable pub blank : Image
-blank = tab imageLength (λ i. 0)
+blank = replicate imageLength 0
 
 -- an image with bytes from a place on
 unfoldable pub holding : ℕ → List ℕ → Image → Image
@@ -110,3 +115,17 @@ selectPage page = write 127 (page ∷ [])
 unfoldable pub applied : ℕ → List ℕ → ℕ → ℕ → List Event
 applied address configs selected lane =
     selectPage 0x10 ∷ write address configs ∷ write 143 (selected ∷ []) ∷ work lane ∷ selectPage 0x11 ∷ read 202 4 ∷ []
+
+-- the night of 01's example
+abbrev pub example : Case
+example =
+    record {
+      image = fourLanes;
+      events =
+          selectPage 0x10 ∷ write 145 (0x10 ∷ 0x10 ∷ 0x10 ∷ 0x10 ∷ []) ∷ write 143 (0x0f ∷ []) ∷ work 0 ∷ selectPage 0x11
+          ∷ read 202 4 ∷ work 3 ∷ work 3 ∷ work 3 ∷ work 3 ∷ read 202 4 ∷ read 206 5 ∷ read 235 1 ∷ work 3 ∷ hardware 0
+          ∷ read 128 2 ∷ [];
+      seen =
+          "0 0" ∷ "1 0" ∷ "2 0" ∷ "3 0" ∷ "4 0" ∷ "5 0 cc cc 00 00" ∷ "6 0" ∷ "7 0" ∷ "8 0" ∷ "9 0" ∷ "10 0 11 11 00 00"
+          ∷ "11 0 10 10 10 10 00" ∷ "12 0 0f" ∷ "13 6" ∷ "14 0" ∷ "15 0 22 22" ∷ [];
+    }

@@ -26,8 +26,8 @@ use Rattle.model.specs.declared.lane.Verdict.the-variants.{Pass, Reject}
 use Rattle.model.specs.declared.lane.Stage.{Stage}
 use Rattle.model.specs.declared.lane.Stage.the-variants.{Idle, InProgress}
 use Rattle.model.specs.declared.lane.LaneRecord.{LaneRecord}
-use Rattle.cases_starred.specs.Same.{sameBytes, sameStage, sameRecords, sameState}
-use Rattle.cases_starred.specs.Case.{changesNothing}
+use Rattle.cases.specs.Same.{sameBytes, sameStage, sameRecords, sameState}
+use Rattle.cases.specs.Case.{changesNothing}
 
 same-bytes : (xs ys : List ℕ) → sameBytes xs ys ≡ true → xs ≡ ys
 unfolding sameBytes

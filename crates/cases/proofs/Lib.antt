@@ -1,0 +1,2 @@
+-- The test of equal states.
+pub mod Same

@@ -1,0 +1,2 @@
+-- The night files, computed.
+pub mod Files

@@ -1,0 +1,2 @@
+-- The night files.
+pub mod Files

@@ -1,0 +1,1 @@
+// Whole night files, computed by the checker from the model. No code.

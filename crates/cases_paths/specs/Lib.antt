@@ -1,0 +1,2 @@
+-- The cases of paths.
+pub mod Paths
