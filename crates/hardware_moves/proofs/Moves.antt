@@ -1,5 +1,6 @@
 -- What entering a state and a hardware event leave, step by step. Assumes nothing.
 use mathlib.Core.Path.{_≡_}
+use mathlib.Core.Bool.{Bool}
 use Prim.Native.Nat.{ℕ}
 use Rattle.bits.specs.Choice.{onlyIf}
 use Rattle.bits.specs.Lane.{laneField}
@@ -19,7 +20,7 @@ pub entered-by : (g v : ℕ) (from to : PathState) (x x₁ x₂ x₃ : Image) �
 unfolding enteredImage withPathState
 entered-by g v from to x x₁ x₂ x₃ p q r s = rw (s, r, q, p)
 
-pub moved-by : (l g n : ℕ) (from to : PathState) (by : Signals) (x y : Image) → g ≡ pathOf (settingsOf activeSet x) l → n ≡ get x (stateAt l) → from ≡ stateOf n
-    → by ≡ signalsOf x g → to ≡ nextState from by → y ≡ movedImage g from to x → y ≡ hardwareImage x l
+pub moved-by : (down : Bool) (l g n : ℕ) (from to : PathState) (by : Signals) (x y : Image) → g ≡ pathOf (settingsOf activeSet x) l → n ≡ get x (stateAt l) → from ≡ stateOf n
+    → by ≡ signalsOf down x g → to ≡ nextState from by → y ≡ movedImage g from to x → y ≡ hardwareImage down x l
 unfolding hardwareImage movedPathImage
-moved-by l g n from to by x y hg hn hf hb ht hy = rw (hy, ht, hb, hf, hn, hg)
+moved-by down l g n from to by x y hg hn hf hb ht hy = rw (hy, ht, hb, hf, hn, hg)

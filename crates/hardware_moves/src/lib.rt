@@ -96,13 +96,13 @@ fn move_to(image: &mut [u8], path: u8, from: PathState, to: PathState)
     }
 }
 
-// A hardware event on the path of a lane.
-pub fn move_path(image: &mut [u8], lane: u8)
+// A hardware event on the path of a lane, in a module that holds every path down or does not.
+pub fn move_path(image: &mut [u8], down: bool, lane: u8)
     requires { ⌜ (length (now image) ≡ imageLength) × (lane < laneCount) ⌝ }
-    ensures { λ _. ⌜ now (image .exit) ≡ hardwareImage (now (image .entry)) lane ⌝ }
+    ensures { λ _. ⌜ now (image .exit) ≡ hardwareImage down (now (image .entry)) lane ⌝ }
 {
     let path = view_paths::path_of(image, lane);
     let from = PathState::of(bits_lanes::nibble(image, map::STATES, lane));
-    let to = next_state(from, hardware_signals::signals_of(image, path));
+    let to = next_state(from, hardware_signals::signals_of(image, down, path));
     move_to(image, path, from, to);
 }

@@ -15,40 +15,40 @@ fn some_bit(image: &[u8], at: usize, set: u8) -> bool
     bits_sets::meets(set, image[at])
 }
 
-// S: a DPDeinit bit of the path is 1.
-fn to_deinit(image: &[u8], path: u8) -> bool
+// S: the module holds every path down, or a DPDeinit bit of the path is 1.
+fn to_deinit(image: &[u8], down: bool, path: u8) -> bool
     requires { ⌜ length (now image) ≡ imageLength ⌝ }
-    ensures { λ r. ⌜ r ≡ toDeinit (now (image .entry)) path ⌝ }
+    ensures { λ r. ⌜ r ≡ toDeinit down (now (image .entry)) path ⌝ }
 {
-    some_bit(image, map::DEINIT, path)
+    down | some_bit(image, map::DEINIT, path)
 }
 
 // R: S, or a DPInitPending bit of the path is 1.
-fn to_reinit(image: &[u8], path: u8) -> bool
+fn to_reinit(image: &[u8], down: bool, path: u8) -> bool
     requires { ⌜ length (now image) ≡ imageLength ⌝ }
-    ensures { λ r. ⌜ r ≡ toReinit (now (image .entry)) path ⌝ }
+    ensures { λ r. ⌜ r ≡ toReinit down (now (image .entry)) path ⌝ }
 {
-    to_deinit(image, path) | some_bit(image, map::PENDING, path)
+    to_deinit(image, down, path) | some_bit(image, map::PENDING, path)
 }
 
 // D: R, or an OutputDisableTx or OutputSquelchForceTx bit of the path is 1.
-fn to_deactivate(image: &[u8], path: u8) -> bool
+fn to_deactivate(image: &[u8], down: bool, path: u8) -> bool
     requires { ⌜ length (now image) ≡ imageLength ⌝ }
-    ensures { λ r. ⌜ r ≡ toDeactivate (now (image .entry)) path ⌝ }
+    ensures { λ r. ⌜ r ≡ toDeactivate down (now (image .entry)) path ⌝ }
 {
     let disabled = some_bit(image, map::OUTPUT_DISABLE, path);
     let squelched = some_bit(image, map::SQUELCH_FORCE, path);
-    to_reinit(image, path) | (disabled | squelched)
+    to_reinit(image, down, path) | (disabled | squelched)
 }
 
-// The signals of a path.
-pub fn signals_of(image: &[u8], path: u8) -> Signals
+// The signals of a path, in a module that holds every path down or does not.
+pub fn signals_of(image: &[u8], down: bool, path: u8) -> Signals
     requires { ⌜ length (now image) ≡ imageLength ⌝ }
-    ensures { λ r. ⌜ r ≡ signalsOf (now (image .entry)) path ⌝ }
+    ensures { λ r. ⌜ r ≡ signalsOf down (now (image .entry)) path ⌝ }
 {
-    let deinit = to_deinit(image, path);
-    let reinit = to_reinit(image, path);
-    let deactivate = to_deactivate(image, path);
+    let deinit = to_deinit(image, down, path);
+    let reinit = to_reinit(image, down, path);
+    let deactivate = to_deactivate(image, down, path);
     Signals {
         deinit,
         reinit,

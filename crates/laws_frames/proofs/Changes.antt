@@ -155,6 +155,6 @@ entered-off g from to x =
     off-trans (off-state (state-outside g to x))
     (off-trans (off-only _ _ _ (off-pending (pending-outside (has g) 0 _))) (off-only _ _ _ (off-flags (flags-outside 134 g _))))
 
-pub hardware-off : (x : Image) (l : ℕ) → SameOffPath x (hardwareImage x l)
+pub hardware-off : (down : Bool) (x : Image) (l : ℕ) → SameOffPath x (hardwareImage down x l)
 unfolding hardwareImage movedPathImage movedImage
-hardware-off x l = off-only _ _ x (entered-off _ _ _ x)
+hardware-off down x l = off-only _ _ x (entered-off _ _ _ x)

@@ -7,3 +7,4 @@ pub mod Back
 pub mod Stages
 pub mod Lasting
 pub mod Commands
+pub mod Starting

@@ -274,8 +274,8 @@ carried-fit room s bytes (Read address count) size d O = read-fit s O (indexOf (
 carried-fit room s bytes (Work l) size d O =
     same-fit s O (eventEffect early s bytes (Work l) .state) (λ m b. event-on m b early s bytes (Work l)) (on-same (stageAt (s .working) l) s)
 carried-fit room s bytes (Hardware l) size d O =
-    same-fit s O (withImage s (hardwareImage (s .image) l)) (λ m b. refl)
-    (λ i a b. hardware-off (s .image) l .byte i (inr (omega arith)) (inr (omega arith)) (inl (omega arith)))
+    same-fit s O (withImage s (hardwareImage false (s .image) l)) (λ m b. refl)
+    (λ i a b. hardware-off false (s .image) l .byte i (inr (omega arith)) (inr (omega arith)) (inl (omega arith)))
 carried-fit room s bytes (Condition flag mask) size d O = raised-fit s O flag (not-false _ (not-refused _ _ refl d .0)) size mask
 carried-fit room s bytes (Sample l p) size d O = sampled-fit s O l p (a-lane l (not-refused _ _ refl d .0)) size
 carried-fit room s bytes (Lasting flag on off) size d O = lasting-fit s O flag (not-false _ (not-refused _ _ refl d .0)) size on off

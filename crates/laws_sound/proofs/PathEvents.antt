@@ -143,9 +143,9 @@ module _ (two : ℕ) (s : State) (W : Well two s) (l : ℕ) (b : l < 8) (idle : 
   moved-well true from to low = entered-well from to low
   moved-well false from to low = W
 
-  pub hardware-well : isUsed (of (settingsOf activeSet (s .image)) l) ≡ true → Well two (withImage s (hardwareImage (s .image) l))
+  pub hardware-well : (down : Bool) → isUsed (of (settingsOf activeSet (s .image)) l) ≡ true → Well two (withImage s (hardwareImage down (s .image) l))
   unfolding hardwareImage movedPathImage movedImage
-  hardware-well u =
+  hardware-well down u =
       let I : InWhole (seenOf s) l = W .sound .used l b (idle-passing _ idle) u in
       let e : stateIn (statesOf (s .image)) l ≡ get (s .image) (stateAt l) = states-lane (s .image) l b in
       moved-well _ _ _ (next-low _ _ (code-low (get (s .image) (stateAt l)) (omega (arith, I .low)) (omega (arith, I .high))))

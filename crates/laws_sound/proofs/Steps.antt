@@ -150,7 +150,7 @@ carried-well two room s bytes (Hardware l) W e =
     let r₁ = not-refused _ _ refl e in
     let r₂ = not-refused _ _ refl (r₁ .1) in
     let r₃ = not-refused _ _ refl (r₂ .1) in
-    hardware-well two s W l (a-lane l (r₁ .0)) (not-busy s l (r₂ .0)) (not-unused s l (r₃ .0))
+    hardware-well two s W l (a-lane l (r₁ .0)) (not-busy s l (r₂ .0)) false (not-unused s l (r₃ .0))
 carried-well two room s bytes (Condition flag mask) W e =
     quiet-well two (s .image) _ (s .working) (condition-quiet flag mask (s .image) (not-false _ (not-refused _ _ refl e .0))) W
 carried-well two room s bytes (Sample l p) W e =

@@ -152,6 +152,6 @@ module _ (room : ℕ) (s : State) (bytes : List ℕ) (l : ℕ) (d : stepOn room 
 
   -- the path of lane l goes from the state that lane l shows to the one that follows by the path's signals
   pub hardware-moves : length (s .image) ≡ imageLength → let g = pathOf (settingsOf activeSet (s .image)) l in let from = stateOf (get (s .image) (stateAt l)) in
-      PathMoved g from (nextState from (signalsOf (s .image) g)) (s .image) (stepOn room s (Hardware l) bytes .state .image)
+      PathMoved g from (nextState from (signalsOf false (s .image) g)) (s .image) (stepOn room s (Hardware l) bytes .state .image)
   unfolding doneStep eventEffect hardwareImage movedPathImage
   hardware-moves size = rw (done-step room s (event (Hardware l) bytes) d) (path-moved _ _ _ (s .image) size)

@@ -50,9 +50,9 @@ some-one : (x : Image) (place : ℕ → Place) (g m : ℕ) → m < 8 → has g m
 unfolding someBit someIn
 some-one x place g m b h e = any-one 8 _ m b (both-i h (eq-eqb _ _ e))
 
-muted-told : (x : Image) (g : ℕ) → MutedLane x g → signalsOf x g .deactivate ≡ true
+muted-told : (down : Bool) (x : Image) (g : ℕ) → MutedLane x g → signalsOf down x g .deactivate ≡ true
 unfolding signalsOf toDeactivate
-muted-told x g M = either-i-r _ _ (told (M .isMuted))
+muted-told down x g M = either-i-r _ _ (told (M .isMuted))
   where
     told : (get x (outputDisableAt (M .lane)) ≡ 1) ⊎ (get x (squelchForceAt (M .lane)) ≡ 1)
         → either (someBit x outputDisableAt g) (someBit x squelchForceAt g) ≡ true
@@ -86,10 +86,10 @@ module _ (room : ℕ) (s : State) (bytes : List ℕ) (l : ℕ) (d : stepOn room 
     (agree : get (s .image) (stateAt m) ≡ get (s .image) (stateAt l)) where
   -- a lane of the path, which showed the path's state, shows the one that follows
   pub hardware-shows : stateOf (get (stepOn room s (Hardware l) bytes .state .image) (stateAt m))
-      ≡ nextState (stateOf (get (s .image) (stateAt l))) (signalsOf (s .image) (pathOf (settingsOf activeSet (s .image)) l))
+      ≡ nextState (stateOf (get (s .image) (stateAt l))) (signalsOf false (s .image) (pathOf (settingsOf activeSet (s .image)) l))
   hardware-shows = rw (hardware-moves room s bytes l d size .states m b h, agree) (shown (get (s .image) (stateAt l)) _)
 
   -- .. and with a muted output on the path it shows none in which the path shines
   pub muted-goes-dark : MutedLane (s .image) (pathOf (settingsOf activeSet (s .image)) l)
       → shines (stateOf (get (stepOn room s (Hardware l) bytes .state .image) (stateAt m))) ≡ false
-  muted-goes-dark M = rw hardware-shows (dark-next _ _ (muted-told (s .image) _ M))
+  muted-goes-dark M = rw hardware-shows (dark-next _ _ (muted-told false (s .image) _ M))

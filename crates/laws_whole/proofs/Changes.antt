@@ -208,23 +208,23 @@ module _ (c : ℕ → Bool) (x y : Image) (A : Alike (activeBitOf c) x y) where
   control-same : (byte g : ℕ) → byte < activeSet → someBit y (laneField byte 1) g ≡ someBit x (laneField byte 1) g
   control-same byte g h = some-same (laneField byte 1) g (λ m b. get-same x y (laneField byte 1 m) (low _ (omega (arith, lane-to byte 1 m b refl))))
 
-  deinit-same : (g : ℕ) → toDeinit y g ≡ toDeinit x g
+  deinit-same : (down : Bool) (g : ℕ) → toDeinit down y g ≡ toDeinit down x g
   unfolding toDeinit
-  deinit-same g = control-same page10 g (omega arith)
+  deinit-same down g = rw (control-same page10 g (omega arith))
 
-  reinit-same : (g : ℕ) → toReinit y g ≡ toReinit x g
+  reinit-same : (down : Bool) (g : ℕ) → toReinit down y g ≡ toReinit down x g
   unfolding toReinit
-  reinit-same g = rw (deinit-same g, some-same pendingAt g (λ m b. pending-same x y m b (λ i a h. sym (alike-above c x y A i (omega arith)))))
+  reinit-same down g = rw (deinit-same down g, some-same pendingAt g (λ m b. pending-same x y m b (λ i a h. sym (alike-above c x y A i (omega arith)))))
 
-  deactivate-same : (g : ℕ) → toDeactivate y g ≡ toDeactivate x g
+  deactivate-same : (down : Bool) (g : ℕ) → toDeactivate down y g ≡ toDeactivate down x g
   unfolding toDeactivate
-  deactivate-same g = rw (reinit-same g, control-same 514 g (omega arith), control-same 516 g (omega arith))
+  deactivate-same down g = rw (reinit-same down g, control-same 514 g (omega arith), control-same 516 g (omega arith))
 
-  signals-same : (g : ℕ) → signalsOf y g ≡ signalsOf x g
+  signals-same : (down : Bool) (g : ℕ) → signalsOf down y g ≡ signalsOf down x g
   unfolding signalsOf
-  signals-same g = λ i. record { deinit = deinit-same g i; reinit = reinit-same g i; deactivate = deactivate-same g i }
+  signals-same down g = λ i. record { deinit = deinit-same down g i; reinit = reinit-same down g i; deactivate = deactivate-same down g i }
 
-  pub alike-moved : (g : ℕ) (from : PathState) → Alike (activeBitOf c) (movedPathImage x g from) (movedPathImage y g from)
+  pub alike-moved : (down : Bool) (g : ℕ) (from : PathState) → Alike (activeBitOf c) (movedPathImage down x g from) (movedPathImage down y g from)
   unfolding movedPathImage movedImage
-  alike-moved g from = rw (signals-same g)
-      (alike-only (activeBitOf c) _ (enteredImage g from (nextState from (signalsOf x g))) x y (alike-entered (activeBitOf c) g from _ x y) A)
+  alike-moved down g from = rw (signals-same down g)
+      (alike-only (activeBitOf c) _ (enteredImage g from (nextState from (signalsOf down x g))) x y (alike-entered (activeBitOf c) g from _ x y) A)

@@ -1,6 +1,6 @@
 -- Every event in both runs: the same refusals, and what is carried out leaves a pair again.
 use mathlib.Core.Path.{_≡_, refl, sym, _∙_}
-use mathlib.Core.Bool.{true, false, not}
+use mathlib.Core.Bool.{Bool, true, false, not}
 use mathlib.Core.List.{List}
 use Prim.Native.Nat.{ℕ, _+_, _<_}
 use native.Mathlib.Decide.{decLt}
@@ -137,10 +137,10 @@ module _ (x y : Image) (w : Working) (S : Sound (seenOf (stateWith x w))) (P : P
   })
 
   -- ---- hardware
-  hardware-alike : (l : ℕ) → l < 8 → isInProgress (stageAt w l) ≡ false → Alike (veiled w) (hardwareImage x l) (hardwareImage y l)
+  hardware-alike : (down : Bool) (l : ℕ) → l < 8 → isInProgress (stageAt w l) ≡ false → Alike (veiled w) (hardwareImage down x l) (hardwareImage down y l)
   unfolding hardwareImage
-  hardware-alike l b f = rw (← (same-lanes x y w S P l b (idle-passing (stageAt w l) f)), state-read (passed w) x y (P .alike) l b)
-      (alike-moved (passed w) x y (P .alike) (pathOf (activeOf x) l) (stateOf (get x (stateAt l))))
+  hardware-alike down l b f = rw (← (same-lanes x y w S P l b (idle-passing (stageAt w l) f)), state-read (passed w) x y (P .alike) l b)
+      (alike-moved (passed w) x y (P .alike) down (pathOf (activeOf x) l) (stateOf (get x (stateAt l))))
 
 -- ---- what is carried out
 module _ (x y : Image) (w : Working) (two : ℕ) (T : Well two (stateWith x w)) (P : Pair x y w) where
@@ -155,7 +155,7 @@ module _ (x y : Image) (w : Working) (two : ℕ) (T : Well two (stateWith x w)) 
       let a = not-refused (refuse NoSuchTarget (noSuchLane l)) _ refl d in
       let b : l < 8 = lane-below l (a .0) in
       let f = idle-of x y w (T .sound) P l (not-refused (refuse Busy (isBusy (stateWith x w) l)) _ refl (a .1) .0) in
-      leaves-pair _ (changed x y _ _ w P (keeps-hardware l x) (keeps-hardware l y) (hardware-alike x y w (T .sound) P l b f))
+      leaves-pair _ (changed x y _ _ w P (keeps-hardware false l x) (keeps-hardware false l y) (hardware-alike x y w (T .sound) P false l b f))
   carried-pair room bytes (Condition flag mask) d =
       let e : isConditionFlag flag ≡ true = not-false _ (not-refused (refuse NoSuchTarget (not (isConditionFlag flag))) _ refl d .0) in
       leaves-pair _ (changed x y _ _ w P (keeps-condition flag mask x e) (keeps-condition flag mask y e) (alike-condition (veiled w) flag mask x y (P .alike)))

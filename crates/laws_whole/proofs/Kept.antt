@@ -86,8 +86,8 @@ keeps-after true t g y = keeps-pending (has g) 0 y
 keeps-after false DpInit g y = keeps-pending (has g) 1 y
 keeps-after false Immediate g y = keeps-refl y
 
-pub keeps-hardware : (l : ℕ) (y : Image) → Keeps y (hardwareImage y l)
-keeps-hardware l y = let s : SameOffPath y (hardwareImage y l) = hardware-off y l in record {
+pub keeps-hardware : (down : Bool) (l : ℕ) (y : Image) → Keeps y (hardwareImage down y l)
+keeps-hardware down l y = let s : SameOffPath y (hardwareImage down y l) = hardware-off down y l in record {
   size = s .size;
   advertised = off-advertised s;
   active = λ i a b. s .byte i (inr (omega arith)) (inr (omega arith)) (inl (omega arith));

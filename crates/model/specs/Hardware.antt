@@ -17,21 +17,21 @@ use Rattle.model.specs.declared.path.PathState.the-variants.{Reserved, D
 unfoldable pub someBit : Image → (Lane → Place) → LaneSet → Bool
 someBit x at g = someIn g (λ m. eqb (get x (at m)) 1)
 
--- S: a DPDeinit bit of the path's lanes is 1
-unfoldable pub toDeinit : Image → LaneSet → Bool
-toDeinit x g = someBit x deinitAt g
+-- S: the module holds every path down, or a DPDeinit bit of the path's lanes is 1
+unfoldable pub toDeinit : Bool → Image → LaneSet → Bool
+toDeinit down x g = either down (someBit x deinitAt g)
 
 -- R: S, or a DPInitPending bit of the path's lanes is 1
-unfoldable pub toReinit : Image → LaneSet → Bool
-toReinit x g = either (toDeinit x g) (someBit x pendingAt g)
+unfoldable pub toReinit : Bool → Image → LaneSet → Bool
+toReinit down x g = either (toDeinit down x g) (someBit x pendingAt g)
 
 -- D: R, or an OutputDisableTx or OutputSquelchForceTx bit of the path's lanes is 1 (Req 06; 002 equation 6-12)
-unfoldable pub toDeactivate : Image → LaneSet → Bool
-toDeactivate x g = either (toReinit x g) (either (someBit x outputDisableAt g) (someBit x squelchForceAt g))
+unfoldable pub toDeactivate : Bool → Image → LaneSet → Bool
+toDeactivate down x g = either (toReinit down x g) (either (someBit x outputDisableAt g) (someBit x squelchForceAt g))
 
 -- the signals of a path
-unfoldable pub signalsOf : Image → LaneSet → Signals
-signalsOf x g = record { deinit = toDeinit x g; reinit = toReinit x g; deactivate = toDeactivate x g }
+unfoldable pub signalsOf : Bool → Image → LaneSet → Signals
+signalsOf down x g = record { deinit = toDeinit down x g; reinit = toReinit down x g; deactivate = toDeactivate down x g }
 
 -- the path table: the state that follows, by the path's signals (01, amended by Req 06 where it asks for D)
 unfoldable pub nextState : PathState → Signals → PathState
@@ -61,9 +61,9 @@ enteredImage g from to x =
 unfoldable pub movedImage : LaneSet → PathState → PathState → Image → Image
 movedImage g from to x = onlyIf (not (isState from to)) (enteredImage g from to) x
 
-unfoldable pub movedPathImage : Image → LaneSet → PathState → Image
-movedPathImage x g from = movedImage g from (nextState from (signalsOf x g)) x
+unfoldable pub movedPathImage : Bool → Image → LaneSet → PathState → Image
+movedPathImage down x g from = movedImage g from (nextState from (signalsOf down x g)) x
 
 -- a hardware event on the path of a used lane
-unfoldable pub hardwareImage : Image → Lane → Image
-hardwareImage x l = movedPathImage x (pathOf (settingsOf activeSet x) l) (stateOf (get x (stateAt l)))
+unfoldable pub hardwareImage : Bool → Image → Lane → Image
+hardwareImage down x l = movedPathImage down x (pathOf (settingsOf activeSet x) l) (stateOf (get x (stateAt l)))

@@ -1,4 +1,5 @@
 -- One event, and a run of events. A step asks for the refusals 4, 8, 5, 7 and 6; it is begun at a start, or at a state that was found sound.
+use mathlib.Core.Bool.{false}
 use mathlib.Core.List.{List, [], _∷_}
 use lib.ListN.{take}
 use Rattle.bits.specs.Choice.{pick}
@@ -55,7 +56,7 @@ unfoldable pub eventEffect : Mode → State → Bytes → Call → Effect
 eventEffect mode s bytes (Write address count) = onState (endedState address count (bytesWrittenState address (take count bytes) s))
 eventEffect mode s bytes (Read address count) = readEffect s (indexOf (s .image) address) count
 eventEffect mode s bytes (Work l) = workEffect mode s l
-eventEffect mode s bytes (Hardware l) = onState (withImage s (hardwareImage (s .image) l))
+eventEffect mode s bytes (Hardware l) = onState (withImage s (hardwareImage false (s .image) l))
 eventEffect mode s bytes (Condition flag mask) = onState (withImage s (conditionImage flag mask (s .image)))
 eventEffect mode s bytes (Sample l p) = onState (sampledState l p s)
 eventEffect mode s bytes (Lasting flag on off) = onState (lastingState flag on off s)

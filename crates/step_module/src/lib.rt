@@ -63,7 +63,7 @@ pub fn hardware(image: &mut [u8], w: Working, lane: u8) -> Returned
     if !view_paths::used_at(image, map::ACTIVE_SET, lane) {
         return contracts::reply(Answer::NothingOnLane, w);
     }
-    hardware_moves::move_path(image, lane);
+    hardware_moves::move_path(image, false, lane);
     flags_interrupt::settle(image);
     contracts::reply(Answer::Done, w)
 }

@@ -6,7 +6,7 @@ use Rattle.hardware_moves.proofs.move_path.Tie as tie
 
 returns : tie.Need-returns
 returns c =
-    moved-by _ _ _ _ _ _ _ _
+    moved-by _ _ _ _ _ _ _ _ _
     (c .before .before .before .before .before .before .before .before .before .before .path-of .ensures)
     (c .before .before .before .before .before .before .before .before .nibble .ensures)
     (c .before .before .before .before .before .before .before .of .ensures)
