@@ -11,7 +11,7 @@ use crate::stream::Stream;
 /// descriptor 2 at FFh unless a case changes the image first.
 struct Bench {
     image: [u8; IMAGE_LEN],
-    lanes: [LaneRecord; LANES],
+    working: Working,
 }
 
 fn usual_image() -> [u8; IMAGE_LEN] {
@@ -39,8 +39,8 @@ fn with_limits(
 
 impl Bench {
     fn of(image: [u8; IMAGE_LEN]) -> Bench {
-        let mut bench = Bench { image, lanes: [LaneRecord::IDLE; LANES] };
-        assert_eq!(start(&mut bench.image, &mut bench.lanes), 0);
+        let mut bench = Bench { image, working: Working::AT_START };
+        assert_eq!(start(&mut bench.image, &mut bench.working), 0);
         bench.write(127, &[0x10]);
         bench
     }
@@ -49,14 +49,27 @@ impl Bench {
         Bench::of(usual_image())
     }
 
+    /// The usual module in ModuleReady.
+    fn ready() -> Bench {
+        Bench::new().brought_up()
+    }
+
+    /// Brought from its start to ModuleReady, the flag of that read.
+    fn brought_up(mut self) -> Bench {
+        self.module();
+        self.module();
+        assert_eq!((self.image[MODULE_STATE], self.shown(8, 1)), (0x06, vec![0x01]));
+        self
+    }
+
     fn event(&mut self, event: Event) -> Outcome {
-        let before = (self.image, self.lanes);
+        let before = (self.image, self.working);
         let mut buffer = [0xEE; 128];
-        let outcome = desk(&mut self.image, &mut self.lanes, &event, &mut buffer);
-        assert_eq!(soundness::unsound_at(&self.image, &self.lanes), None);
+        let outcome = desk(&mut self.image, &mut self.working, &event, &mut buffer);
+        assert_eq!(soundness::unsound_at(&self.image, &self.working.lanes), None);
         assert!(buffer[outcome.read as usize..].iter().all(|&byte| byte == 0xEE));
         if outcome.answer != 0 {
-            assert!(before == (self.image, self.lanes), "a refusal changed something");
+            assert!(before == (self.image, self.working), "a refusal changed something");
         }
         outcome
     }
@@ -70,7 +83,7 @@ impl Bench {
     fn read(&mut self, address: u8, count: u8) -> Result<Vec<u8>, u8> {
         let mut buffer = [0u8; 128];
         let event = Event::Read { address, count };
-        let outcome = desk(&mut self.image, &mut self.lanes, &event, &mut buffer);
+        let outcome = desk(&mut self.image, &mut self.working, &event, &mut buffer);
         match outcome.answer {
             0 => Ok(buffer[..outcome.read as usize].to_vec()),
             number => Err(number),
@@ -93,7 +106,7 @@ impl Bench {
     fn apply(&mut self, lane: u8, staged: &[u8], trigger: u8, selected: u8) -> u8 {
         self.write(145 + lane, staged);
         self.write(trigger, &[selected]);
-        while self.lanes[lane as usize].in_progress() {
+        while self.working.lanes[lane as usize].in_progress() {
             assert_eq!(self.work(lane).answer, 0);
         }
         self.status(lane as usize)
@@ -110,9 +123,9 @@ fn both_sides_of_each_line() {
 
     let mut bench = Bench::new();
     bench.write(145, &[0x10; 4]);
-    let before = (bench.image, bench.lanes);
+    let before = (bench.image, bench.working);
     assert_eq!(bench.write(143, &[0]), 0);
-    assert!(before == (bench.image, bench.lanes));
+    assert!(before == (bench.image, bench.working));
 
     assert_eq!(bench.write(248, &[0; 8]), 0);
     assert_eq!(bench.write(250, &[0; 8]), 4);
@@ -164,7 +177,7 @@ fn the_descriptors_of_both_areas_are_one_list() {
 
 #[test]
 fn a_path_of_application_fifteen_goes_its_way() {
-    let mut bench = Bench::of(fifteen_image());
+    let mut bench = Bench::of(fifteen_image()).brought_up();
     assert_eq!(bench.apply(4, &[0xF8; 4], 143, 0xF0), 1);
     for _ in 0..4 {
         assert_eq!(bench.hardware(5), 0);
@@ -172,7 +185,7 @@ fn a_path_of_application_fifteen_goes_its_way() {
     assert_eq!(bench.image[DP_STATE + 2..DP_STATE + 4], [0x44, 0x44]);
     // The list ends under it: the state is not sound any more.
     bench.image[P01 + 239] = 0xFF;
-    let found = soundness::unsound_at(&bench.image, &bench.lanes);
+    let found = soundness::unsound_at(&bench.image, &bench.working.lanes);
     assert_eq!(found.map(|(condition, _)| condition), Some('c'));
 }
 
@@ -184,7 +197,7 @@ fn low_alarm_is_strict_and_high_byte_first() {
     bench.event(Event::Sample { lane: 5, value: 999 });
     assert_eq!(bench.image[RX_POWER_LOW_ALARM_FLAG], 0x20);
     assert_eq!(bench.image[RX_POWER + 10..RX_POWER + 12], [0x03, 0xE7]);
-    assert_eq!(bench.image[3], 0x06);
+    assert_eq!(bench.image[3], 0x02);
 }
 
 #[test]
@@ -204,7 +217,7 @@ fn the_second_trigger_of_an_access_sees_the_first() {
     let mut bench = Bench::new();
     bench.write(145, &[0x10, 0x10, 0x10, 0x10, 0x18, 0x18, 0x18, 0x18]);
     bench.write(143, &[0x0F, 0xFF]);
-    match (bench.lanes[0].stage, bench.lanes[4].stage) {
+    match (bench.working.lanes[0].stage, bench.working.lanes[4].stage) {
         (Stage::InProgress(one), Stage::InProgress(two)) => {
             assert_eq!((one.trigger, one.group), (Trigger::ApplyDPInit, 0x0F));
             assert_eq!((two.trigger, two.group), (Trigger::ApplyImmediate, 0xF0));
@@ -236,21 +249,21 @@ fn flags_are_cleared_after_their_value_is_taken() {
     let mut bench = Bench::new();
     bench.event(Event::Condition { flag_byte: 136, mask: 0x81 });
     bench.event(Event::Condition { flag_byte: 148, mask: 0x02 });
-    assert_eq!(bench.image[3], 0x06);
+    assert_eq!(bench.image[3], 0x02);
     bench.write(127, &[0x11]);
     assert_eq!(bench.read(136, 1), Ok(vec![0x81]));
-    assert_eq!(bench.image[3], 0x06);
+    assert_eq!(bench.image[3], 0x02);
     assert_eq!(bench.read(134, 20).map(|bytes| (bytes[2], bytes[14])), Ok((0, 0x02)));
-    assert_eq!(bench.image[3], 0x07);
+    assert_eq!(bench.image[3], 0x03);
 }
 
 // ---- flags that stay true ----
 
 /// The usual module with limits of received power at 1000h (low) and 2000h
-/// (high), page 11h selected.
+/// (high), in ModuleReady, page 11h selected.
 fn watched() -> Bench {
     let limits = with_limits(usual_image(), 0x1000, 0x1000, 0x2000, 0x2000);
-    let mut bench = Bench::of(limits);
+    let mut bench = Bench::of(limits).brought_up();
     bench.write(127, &[0x11]);
     bench
 }
@@ -297,9 +310,9 @@ fn a_bit_in_both_masks_is_on() {
     // So is one that was on before; with neither mask nothing changes.
     assert_eq!(bench.lasting(137, 0x01, 0x81), 0);
     assert_eq!(bench.twice(137, 1), [[0x81], [0x01]]);
-    let before = (bench.image, bench.lanes);
+    let before = (bench.image, bench.working);
     assert_eq!(bench.lasting(137, 0x00, 0x00), 0);
-    assert!(before == (bench.image, bench.lanes));
+    assert!(before == (bench.image, bench.working));
 }
 
 #[test]
@@ -319,9 +332,9 @@ fn the_one_time_event_leaves_what_is_on() {
     assert_eq!(bench.one_time(135, 0x01), 0);
     assert_eq!(bench.twice(135, 1), [[0x01], [0x00]]);
     assert_eq!(bench.lasting(148, 0x81, 0x00), 0);
-    let on = bench.lanes;
+    let on = bench.working.lanes;
     assert_eq!(bench.one_time(148, 0x02), 0);
-    assert!(on == bench.lanes);
+    assert!(on == bench.working.lanes);
     assert_eq!(bench.twice(148, 1), [[0x83], [0x81]]);
 }
 
@@ -399,16 +412,16 @@ fn masks_have_a_say_in_the_interrupt_alone() {
 fn flags_masks_and_the_interrupt() {
     let mut bench = Bench::of(with_limits([0; IMAGE_LEN], 10, 20, 80, 100));
     bench.one_time(136, 0x81);
-    assert_eq!(bench.shown(3, 1), [0x06]);
+    assert_eq!(bench.shown(3, 1), [0x02]);
     bench.sample(7, 101);
     bench.write(213, &[0x00, 0x00, 0xFF]);
     bench.write(221, &[0x00]);
-    assert_eq!(bench.shown(3, 1), [0x06]);
+    assert_eq!(bench.shown(3, 1), [0x02]);
     bench.write(228, &[0x80]);
     bench.write(230, &[0x80]);
-    assert_eq!(bench.shown(3, 1), [0x07]);
+    assert_eq!(bench.shown(3, 1), [0x03]);
     bench.write(230, &[0x7F]);
-    assert_eq!(bench.shown(3, 1), [0x06]);
+    assert_eq!(bench.shown(3, 1), [0x02]);
     bench.write(127, &[0x11]);
     assert_eq!(bench.shown(136, 1), [0x81]);
     // Amended by Req 02: the sample above its limits comes back, and the
@@ -416,7 +429,7 @@ fn flags_masks_and_the_interrupt() {
     let mut flags = [0; 20];
     (flags[15], flags[17]) = (0x80, 0x80);
     assert_eq!(bench.shown(134, 20), flags);
-    assert_eq!(bench.shown(3, 1), [0x06]);
+    assert_eq!(bench.shown(3, 1), [0x02]);
     assert_eq!(bench.shown(200, 2), [0x00, 0x65]);
     assert_eq!(bench.shown(134, 20), flags);
 }
@@ -428,13 +441,13 @@ fn an_apply_leaves_what_is_on() {
         let mut bench = watched();
         bench.lasting(138, 0x05, 0x00);
         bench.sample(1, 0x2001);
-        let on = bench.lanes.map(|record| record.on);
+        let on = bench.working.lanes.map(|record| record.on);
         assert_eq!(on, [1 << 4, 1 << 15 | 1 << 17, 1 << 4, 0, 0, 0, 0, 0]);
         bench.write(127, &[0x10]);
         assert_eq!(bench.apply(0, &[staged; 4], 143, 0x0F), status);
-        assert_eq!(bench.lanes.map(|record| record.on), on);
-        assert_eq!(start(&mut bench.image, &mut bench.lanes), 0);
-        assert_eq!(bench.lanes, [LaneRecord::IDLE; LANES], "start ends all");
+        assert_eq!(bench.working.lanes.map(|record| record.on), on);
+        assert_eq!(start(&mut bench.image, &mut bench.working), 0);
+        assert_eq!(bench.working.lanes, [LaneRecord::IDLE; LANES], "start ends all");
     }
     // What begins and ends in the middle of one holds as elsewhere.
     let mut bench = watched();
@@ -445,7 +458,7 @@ fn an_apply_leaves_what_is_on() {
     bench.lasting(148, 0x03, 0x00);
     bench.work(0);
     bench.lasting(148, 0x00, 0x02);
-    while bench.lanes[0].in_progress() {
+    while bench.working.lanes[0].in_progress() {
         bench.work(0);
     }
     bench.write(127, &[0x11]);
@@ -456,14 +469,14 @@ fn an_apply_leaves_what_is_on() {
 fn what_is_on_must_show() {
     let bench = watched();
     let answer = |on: u32, flags: &[u8]| {
-        let (mut image, mut lanes) = (bench.image, bench.lanes);
-        lanes[6].on = on;
+        let (mut image, mut working) = (bench.image, bench.working);
+        working.lanes[6].on = on;
         for &flag_byte in flags {
             image[P11 + flag_byte as usize] = 0x40;
         }
-        let found = soundness::unsound_at(&image, &lanes);
+        let found = soundness::unsound_at(&image, &working.lanes);
         let read = Event::Read { address: 0, count: 1 };
-        let answer = desk(&mut image, &mut lanes, &read, &mut [0]).answer;
+        let answer = desk(&mut image, &mut working, &read, &mut [0]).answer;
         assert_eq!(found, (answer == 3).then(|| ('f', 6)));
         answer
     };
@@ -487,7 +500,7 @@ fn what_is_on_must_show() {
 
 #[test]
 fn a_path_from_rest_to_active_and_back() {
-    let mut bench = Bench::new();
+    let mut bench = Bench::ready();
     assert_eq!(bench.apply(4, &[0x18; 4], 143, 0xF0), 1);
     assert_eq!(bench.image[DP_INIT_PENDING], 0xF0);
     let mut states = Vec::new();
@@ -530,7 +543,7 @@ fn states_after(bench: &mut Bench, events: usize) -> Vec<u8> {
 #[test]
 fn light_goes_off_when_told() {
     for address in [130, 132] {
-        let mut bench = Bench::new();
+        let mut bench = Bench::ready();
         bench.apply(0, &[0x10; 4], 143, 0x0F);
         assert_eq!(states_after(&mut bench, 4), [2, 7, 5, 4]);
         // One lane takes the whole path back, and keeps it in DPInitialized.
@@ -555,12 +568,12 @@ fn light_goes_off_when_told() {
 #[test]
 fn light_off_has_no_say_elsewhere() {
     // Not outside the path, and not by the registers beside them.
-    let mut bench = Bench::new();
+    let mut bench = Bench::ready();
     bench.apply(0, &[0x10; 4], 143, 0x0F);
     bench.write(129, &[0xFF, 0xF0, 0xFF, 0xF0]);
     assert_eq!(states_after(&mut bench, 5), [2, 7, 5, 4, 4]);
     // Not on the way to DPInitialized; something pending goes before it there.
-    let mut bench = Bench::new();
+    let mut bench = Bench::ready();
     bench.apply(0, &[0x10; 4], 143, 0x0F);
     bench.write(130, &[0x0F, 0, 0x0F]);
     assert_eq!(states_after(&mut bench, 3), [2, 7, 7]);
@@ -572,7 +585,7 @@ fn light_off_has_no_say_elsewhere() {
 
 #[test]
 fn commission_mask_only_when_immediate_closes_on_a_live_path() {
-    let mut bench = Bench::new();
+    let mut bench = Bench::ready();
     assert_eq!(bench.apply(0, &[0x10; 4], 144, 0x0F), 1);
     assert_eq!(bench.image[DP_INIT_PENDING], 0);
     bench.hardware(0);
@@ -585,33 +598,33 @@ fn commission_mask_only_when_immediate_closes_on_a_live_path() {
 
 #[test]
 fn refusals_in_their_order() {
-    let mut lanes = [LaneRecord::IDLE; LANES];
+    let mut working = Working::AT_START;
     let read = Event::Read { address: 0, count: 0 };
     for length in [0, 1, 767, 768, 769, 784, 895, 897, 1024] {
         let mut image = vec![0u8; length];
-        assert_eq!(start(&mut image, &mut lanes), 1, "{} bytes", length);
-        assert_eq!(desk(&mut image, &mut lanes, &read, &mut []).answer, 1);
-        assert_eq!(desk_list(&mut image, &mut lanes, &[], &mut []), 1);
+        assert_eq!(start(&mut image, &mut working), 1, "{} bytes", length);
+        assert_eq!(desk(&mut image, &mut working, &read, &mut []).answer, 1);
+        assert_eq!(desk_list(&mut image, &mut working, &[], &mut []), 1);
     }
     let mut image = [0u8; IMAGE_LEN];
     image[2] = 0x80;
-    assert_eq!(start(&mut image, &mut lanes), 2);
-    assert_eq!(desk(&mut image, &mut lanes, &read, &mut []).answer, 2);
+    assert_eq!(start(&mut image, &mut working), 2);
+    assert_eq!(desk(&mut image, &mut working, &read, &mut []).answer, 2);
     image[2] = 0;
-    assert_eq!(desk(&mut image, &mut lanes, &read, &mut []).answer, 3);
-    assert_eq!(start(&mut image, &mut lanes), 0);
-    assert_eq!(desk(&mut image, &mut lanes, &read, &mut []).answer, 4);
+    assert_eq!(desk(&mut image, &mut working, &read, &mut []).answer, 3);
+    assert_eq!(start(&mut image, &mut working), 0);
+    assert_eq!(desk(&mut image, &mut working, &read, &mut []).answer, 4);
     let read = Event::Read { address: 0, count: 1 };
-    assert_eq!(desk(&mut image, &mut lanes, &read, &mut []).answer, 5);
-    assert_eq!(desk(&mut image, &mut lanes, &read, &mut [0]).answer, 0);
+    assert_eq!(desk(&mut image, &mut working, &read, &mut []).answer, 5);
+    assert_eq!(desk(&mut image, &mut working, &read, &mut [0]).answer, 0);
 }
 
 #[test]
 fn limits_back_to_front_are_refused_at_start_alone() {
     let answer = |low_alarm, low_warning, high_warning, high_alarm| {
         let limits = with_limits(usual_image(), low_alarm, low_warning, high_warning, high_alarm);
-        let (mut image, mut lanes) = (limits, [LaneRecord::IDLE; LANES]);
-        let answer = start(&mut image, &mut lanes);
+        let (mut image, mut working) = (limits, Working::AT_START);
+        let answer = start(&mut image, &mut working);
         assert!(answer == 0 || image == limits, "a refused start changed the image");
         answer
     };
@@ -624,16 +637,16 @@ fn limits_back_to_front_are_refused_at_start_alone() {
     // Low byte first, 00ffh and 0100h would stand the other way round.
     assert_eq!([answer(0x00FF, 0x0100, 0x01FF, 0x0200), answer(0x0100, 0x00FF, 900, 999)], [0, 10]);
     // Asked after 1 and 2, and of no other call.
-    let mut lanes = [LaneRecord::IDLE; LANES];
+    let mut working = Working::AT_START;
     let mut image = with_limits(usual_image(), 65535, 65535, 0, 0);
-    assert_eq!(start(&mut image[..768], &mut lanes), 1);
+    assert_eq!(start(&mut image[..768], &mut working), 1);
     image[2] = 0x80;
-    assert_eq!(start(&mut image, &mut lanes), 2);
+    assert_eq!(start(&mut image, &mut working), 2);
     let mut bench = Bench::new();
     bench.image = with_limits(bench.image, 3, 2, 1, 0);
     assert_eq!(bench.event(Event::Sample { lane: 0, value: 2 }).answer, 0);
     assert_eq!(bench.image[RX_POWER_HIGH_ALARM_FLAG..=RX_POWER_LOW_WARNING_FLAG], [1, 1, 1, 0]);
-    assert_eq!(desk_list(&mut bench.image, &mut bench.lanes, &[], &mut []), 0);
+    assert_eq!(desk_list(&mut bench.image, &mut bench.working, &[], &mut []), 0);
 }
 
 #[test]
@@ -645,7 +658,7 @@ fn soundness_looks_at_odd_records_too() {
         bench
     };
     let broken = |change: &dyn Fn(&mut [u8; IMAGE_LEN], &mut Apply)| {
-        let (mut image, mut lanes) = (bench.image, bench.lanes);
+        let (mut image, mut lanes) = (bench.image, bench.working.lanes);
         if let Stage::InProgress(apply) = &mut lanes[1].stage {
             change(&mut image, apply);
         }
@@ -664,15 +677,19 @@ fn soundness_looks_at_odd_records_too() {
     assert_eq!(broken(&|_, apply| apply.held.app_sel = 2), Some('e'));
     // Flags that no record calls on say nothing.
     assert_eq!(broken(&|image, _| image[LANE_FLAGS..LANE_FLAGS_END].fill(0xFF)), None);
-    // The bytes of the triggers and of lower 3 are nobody's business here.
+    // The bytes of the triggers, of the module's state and of its controls are
+    // nobody's business here.
     assert_eq!(broken(&|image, _| image[APPLY_DP_INIT] = 0xFF), None);
-    assert_eq!(broken(&|image, _| image[MODULE_STATE] = 0), None);
+    for byte in 0..=255 {
+        assert_eq!(broken(&|image, _| image[MODULE_STATE] = byte), None);
+        assert_eq!(broken(&|image, _| image[MODULE_CONTROLS] = byte), None);
+    }
 }
 
 #[test]
 fn what_only_lent_states_show() {
     // A path in DPTxTurnOn with a bit pending goes back.
-    let mut bench = Bench::new();
+    let mut bench = Bench::ready();
     bench.apply(0, &[0x10; 4], 144, 0x0F);
     for _ in 0..3 {
         bench.hardware(0);
@@ -716,27 +733,49 @@ fn a_list_is_answered_as_its_events_are() {
     let night = example();
     let night = night::check(&night).unwrap_or_else(|number| panic!("bad {}", number));
     let events: Vec<Event> = night.events().collect();
-    let (mut image, mut lanes) = (*night.image(), [LaneRecord::IDLE; LANES]);
-    assert_eq!(start(&mut image, &mut lanes), 0);
-    let before = (image, lanes);
+    let (mut image, mut working) = (*night.image(), Working::AT_START);
+    assert_eq!(start(&mut image, &mut working), 0);
+    let before = (image, working);
     let mut short = vec![0x55; events.len() - 1];
-    assert_eq!(desk_list(&mut image, &mut lanes, &events, &mut short), 5);
-    assert!(before == (image, lanes) && short.iter().all(|&slot| slot == 0x55));
+    assert_eq!(desk_list(&mut image, &mut working, &events, &mut short), 5);
+    assert!(before == (image, working) && short.iter().all(|&slot| slot == 0x55));
     let mut answers = vec![0x55; events.len() + 1];
-    assert_eq!(desk_list(&mut image, &mut lanes, &events, &mut answers), 0);
+    assert_eq!(desk_list(&mut image, &mut working, &events, &mut answers), 0);
     assert_eq!(answers, [0, 0, 0, 0, 0, 0, 0, 0, 0, 0, 0, 0, 0, 6, 0, 0, 0x55]);
-    assert_eq!(desk_list(&mut image, &mut lanes, &[], &mut []), 0);
+    assert_eq!(desk_list(&mut image, &mut working, &[], &mut []), 0);
 }
 
 fn example() -> Vec<u8> {
     include_bytes!("../../nights/example.night").to_vec()
 }
 
+/// The example in edition 4, with this many module events before its hardware
+/// event.
+fn example_with_module_events(count: usize) -> Vec<u8> {
+    let hardware_at = 912 + 14 * 12;
+    let mut file = in_edition(4, &example());
+    for _ in 0..count {
+        file.splice(hardware_at..hardware_at, [7, 0, 0, 0, 0, 0, 0, 0, 0, 0, 0, 0]);
+    }
+    file[4..8].copy_from_slice(&(16 + count as u32).to_be_bytes());
+    file
+}
+
 #[test]
-fn the_example_prints_as_the_paper_says() {
-    let expected = "0 0\n1 0\n2 0\n3 0\n4 0\n5 0 cc cc 00 00\n6 0\n7 0\n8 0\n9 0\n\
-                    10 0 11 11 00 00\n11 0 10 10 10 10 00\n12 0 0f\n13 6\n14 0\n15 0 22 22\n";
-    assert_eq!(String::from_utf8(night::replay(&example())), Ok(expected.to_string()));
+fn the_example_prints_as_the_paper_and_its_request_say() {
+    let lines = "0 0\n1 0\n2 0\n3 0\n4 0\n5 0 cc cc 00 00\n6 0\n7 0\n8 0\n9 0\n\
+                 10 0 11 11 00 00\n11 0 10 10 10 10 00\n12 0 0f\n13 6\n";
+    for (file, end) in [
+        (example(), "14 0\n15 0 11 11\n"),
+        (example_with_module_events(0), "14 0\n15 0 11 11\n"),
+        (example_with_module_events(1), "14 0\n15 0\n16 0 11 11\n"),
+        (example_with_module_events(2), "14 0\n15 0\n16 0\n17 0 22 22\n"),
+        (example_with_module_events(3), "14 0\n15 0\n16 0\n17 0\n18 0 22 22\n"),
+    ] {
+        assert_eq!(printed(&file), lines.to_string() + end);
+    }
+    let ready = include_bytes!("../../nights/example-ready.night");
+    assert_eq!(printed(ready), lines.to_string() + "14 0\n15 0\n16 0\n17 0 22 22\n");
 }
 
 #[test]
@@ -772,12 +811,12 @@ fn the_index_counts_past_every_digit() {
 
 // ---- command messages ----
 
-/// The example's module, firmware 7.254, with page 9Fh selected.
+/// The example's module in ModuleReady, firmware 7.254, with page 9Fh selected.
 fn commanded() -> Bench {
     let mut image = [0u8; IMAGE_LEN];
     image[88..90].copy_from_slice(&[0x44, 0x11]);
     image[39..41].copy_from_slice(&[0x07, 0xFE]);
-    let mut bench = Bench::of(image);
+    let mut bench = Bench::of(image).brought_up();
     bench.write(127, &[0x9F]);
     bench
 }
@@ -954,13 +993,14 @@ fn bit_6_of_31_masks_the_completion() {
             assert_eq!((bench.shown(8, 1), bench.shown(3, 1)), (vec![0x40], vec![0x07]));
         }
     }
-    // No other bit of lower 8 and 9 has a say, in a lent image either.
+    // But for bit 0, no other bit of lower 8 and 9 has a say, in a lent image
+    // either.
     let mut bench = commanded();
-    bench.image[8..10].copy_from_slice(&[0xBF, 0xFF]);
+    bench.image[8..10].copy_from_slice(&[0xBE, 0xFF]);
     bench.write(31, &[0x00]);
     assert_eq!(bench.shown(3, 1), [0x07]);
     bench.command(0x0040, 0, 0xBF);
-    assert_eq!((bench.image[3], bench.shown(8, 2)), (0x06, vec![0xFF, 0xFF]));
+    assert_eq!((bench.image[3], bench.shown(8, 2)), (0x06, vec![0xFE, 0xFF]));
     assert_eq!((bench.image[3], bench.shown(8, 2)), (0x07, vec![0, 0]));
     // Lower 8 and 37 take no write.
     bench.command(0x0040, 0, 0xBF);
@@ -1003,7 +1043,7 @@ fn every_byte_of_page_9f_is_kept_till_start() {
     assert_eq!(bench.shown(128, 128), kept);
     assert_eq!(bench.shown(128, 128), kept, "a read clears nothing");
     assert_eq!(bench.image[768..], kept[..]);
-    assert_eq!(start(&mut bench.image, &mut bench.lanes), 0);
+    assert_eq!(start(&mut bench.image, &mut bench.working), 0);
     assert_eq!(bench.image[768..], [0; 128]);
 }
 
@@ -1048,15 +1088,365 @@ fn the_linux_driver_is_served() {
     assert_eq!(bench.shown(136, 120), [0xA5; 120]);
 }
 
+// ---- power states ----
+
+impl Bench {
+    /// A module event, and lower 3 after it.
+    fn module(&mut self) -> u8 {
+        let before = (self.image, self.working);
+        assert_eq!(self.event(Event::Module).answer, 0);
+        let mut unchanged = (self.image, self.working);
+        for (place, bits) in [(MODULE_STATE, 0x0F), (MODULE_FLAGS, 0x01)] {
+            unchanged.0[place] = (unchanged.0[place] & !bits) | (before.0[place] & bits);
+        }
+        assert!(before == unchanged, "it changes its state, 8.0 and lower 3.0, nothing else");
+        self.image[MODULE_STATE]
+    }
+
+    /// The low-power line is on, or off; no register shows it.
+    fn line(&mut self, on: bool) {
+        let before = (self.image, self.working.lanes);
+        assert_eq!(self.event(Event::Line { on }).answer, 0);
+        assert!(before == (self.image, self.working.lanes) && self.working.line == on);
+    }
+
+    /// Lower 26 is written: what it then reads as.
+    fn controls(&mut self, byte: u8) -> u8 {
+        assert_eq!(self.write(26, &[byte]), 0);
+        self.shown(26, 1)[0]
+    }
+
+    /// A path of lanes 0 to 3 in DPActivated, in ModuleReady.
+    fn lit() -> Bench {
+        let mut bench = Bench::ready();
+        assert_eq!(bench.apply(0, &[0x10; 4], 143, 0x0F), 1);
+        assert_eq!(states_after(&mut bench, 4), [2, 7, 5, 4]);
+        bench
+    }
+}
+
+#[test]
+fn the_module_comes_up() {
+    let mut bench = Bench::new();
+    assert_eq!((bench.shown(3, 6), bench.shown(26, 1)), (vec![0x03, 0, 0, 0, 0, 0], vec![0x40]));
+    assert_eq!(bench.module(), 0x05);
+    assert_eq!(bench.shown(8, 1), [0x00]);
+    assert_eq!(bench.module(), 0x06);
+    assert_eq!(bench.shown(8, 1), [0x01]);
+    assert_eq!(bench.shown(3, 1), [0x07]);
+    assert_eq!(bench.module(), 0x07);
+    assert_eq!(bench.shown(8, 1), [0x00], "staying enters nothing");
+}
+
+#[test]
+fn the_line_holds_the_module_down_where_it_may() {
+    let mut bench = Bench::new();
+    bench.line(true);
+    assert_eq!(bench.module(), 0x03);
+    assert_eq!(bench.controls(0x00), 0x00);
+    assert_eq!(bench.module(), 0x05);
+    assert_eq!(bench.controls(0x40), 0x40);
+    assert_eq!(bench.module(), 0x09);
+    assert_eq!(bench.module(), 0x02);
+    assert_eq!((bench.shown(8, 1), bench.shown(3, 1)), (vec![0x01], vec![0x03]));
+    assert_eq!(bench.module(), 0x03);
+    bench.line(false);
+    assert_eq!([bench.module(), bench.module()], [0x05, 0x06]);
+}
+
+#[test]
+fn a_request_that_is_over_raises_no_flag() {
+    let mut bench = Bench::new();
+    assert_eq!(bench.module(), 0x05);
+    assert_eq!(bench.controls(0x50), 0x50);
+    assert_eq!(bench.module(), 0x09);
+    assert_eq!(bench.controls(0x40), 0x40);
+    assert_eq!((bench.module(), bench.shown(8, 1)), (0x03, vec![0x00]));
+    // While it lasts, ModuleLowPwr is there to stay in.
+    assert_eq!(bench.module(), 0x05);
+    assert_eq!(bench.controls(0x10), 0x10);
+    assert_eq!([bench.module(), bench.module()], [0x09, 0x02]);
+    assert_eq!((bench.shown(8, 1), bench.module()), (vec![0x01], 0x03));
+}
+
+/// The path of lanes 0 to 3 winds down in ModuleReady, and the module goes
+/// down behind it.
+fn winds_down(mut bench: Bench) {
+    assert_eq!(bench.module() & 0x0E, 0x06);
+    assert_eq!(states_after(&mut bench, 3), [6, 7, 3]);
+    assert_eq!(bench.module() & 0x0E, 0x06, "a path is still up");
+    assert_eq!(states_after(&mut bench, 1), [1]);
+    assert_eq!(bench.module(), 0x08, "134 is up");
+    assert_eq!((bench.module(), bench.shown(8, 1)), (0x02, vec![0x01]));
+    assert_eq!(bench.shown(3, 1), [0x02]);
+    assert_eq!(states_after(&mut bench, 2), [1, 1]);
+}
+
+#[test]
+fn paths_wind_down_before_the_module() {
+    let mut bench = Bench::lit();
+    assert_eq!(bench.controls(0x50), 0x50);
+    winds_down(bench);
+
+    let mut bench = Bench::lit();
+    bench.line(true);
+    winds_down(bench);
+
+    // The line has no say without its bit, and is heard as soon as it has.
+    let mut bench = Bench::lit();
+    assert_eq!(bench.controls(0x00), 0x00);
+    bench.line(true);
+    assert_eq!(bench.module() & 0x0E, 0x06);
+    assert_eq!(states_after(&mut bench, 3), [4, 4, 4]);
+    assert_eq!(bench.module() & 0x0E, 0x06);
+    assert_eq!(bench.controls(0x40), 0x40);
+    winds_down(bench);
+
+    // A request that ends halfway lets the path come back.
+    let mut bench = Bench::lit();
+    assert_eq!(bench.controls(0x10), 0x10);
+    assert_eq!(states_after(&mut bench, 2), [6, 7]);
+    assert_eq!(bench.controls(0x00), 0x00);
+    assert_eq!(states_after(&mut bench, 2), [5, 4]);
+}
+
+#[test]
+fn a_request_takes_a_path_back_from_every_state() {
+    for (events, states) in [(1, [3, 1, 1]), (2, [3, 1, 1]), (3, [6, 7, 3]), (4, [6, 7, 3])] {
+        let mut bench = Bench::ready();
+        bench.apply(0, &[0x10; 4], 144, 0x0F);
+        states_after(&mut bench, events);
+        bench.line(true);
+        assert_eq!(states_after(&mut bench, 3), states, "after {} hardware events", events);
+    }
+}
+
+#[test]
+fn every_lane_counts_for_leaving_module_ready() {
+    // A path of lanes 4 to 7 keeps the module up, and so does an Apply on it.
+    let mut bench = Bench::ready();
+    assert_eq!(bench.apply(4, &[0x18; 4], 143, 0xF0), 1);
+    assert_eq!(bench.hardware(7), 0);
+    bench.line(true);
+    bench.write(143, &[0xF0]);
+    for _ in 0..3 {
+        assert_eq!(bench.hardware(4), 7);
+        assert_eq!(bench.module(), 0x07);
+    }
+    bench.work(4);
+    assert_eq!((bench.status(4), bench.module()), (2, 0x07));
+    assert_eq!([bench.hardware(4), bench.hardware(4)], [0, 0]);
+    bench.write(143, &[0xF0]);
+    assert_eq!(bench.module(), 0x08, "an Apply on paths at rest does not hinder it");
+    assert_eq!(bench.module(), 0x02);
+    for _ in 0..5 {
+        assert_eq!(bench.work(6).answer, 0);
+    }
+    assert_eq!(bench.status(6), 1);
+}
+
+#[test]
+fn lower_26_keeps_what_is_written_but_for_the_reset() {
+    let mut bench = Bench::ready();
+    for byte in (0..=255).filter(|byte| byte & 0x08 == 0) {
+        assert_eq!(bench.controls(byte), byte);
+    }
+    assert_eq!(bench.controls(0xF7), 0xF7);
+    assert_eq!(bench.controls(0xFF), 0x40);
+    assert_eq!(bench.shown(3, 1), [0x03]);
+    // Bits 7, 5 and 2 to 0 have no effect.
+    let mut bench = Bench::lit();
+    assert_eq!(bench.controls(0xA7), 0xA7);
+    assert_eq!((states_after(&mut bench, 2), bench.module() & 0x0E), (vec![4, 4], 0x06));
+    // The bit is 0 in what is read, also if a lent image has it at 1.
+    bench.image[MODULE_CONTROLS] = 0xFF;
+    assert_eq!((bench.shown(26, 1), bench.shown(24, 3)), (vec![0xF7], vec![0, 0, 0xF7]));
+    assert_eq!(bench.shown(0, 128)[26], 0xF7);
+    assert_eq!(bench.shown(27, 1), [0x00]);
+}
+
+#[test]
+fn a_reset_comes_after_all_bytes_of_its_access() {
+    let mut bench = Bench::ready();
+    assert_eq!(bench.write(25, &[0xFF, 0x08, 0, 0, 0, 0, 0xFF, 0xFF]), 0);
+    assert_eq!((bench.shown(3, 1), bench.shown(26, 1)), (vec![0x03], vec![0x40]));
+    assert_eq!((bench.shown(31, 2), bench.shown(8, 1)), (vec![0, 0], vec![0]));
+    // The same bytes with the bit at 0, and beside it.
+    let mut bench = Bench::ready();
+    assert_eq!(bench.write(25, &[0xFF, 0x00, 0xFF, 0, 0, 0, 0xFF, 0xFF]), 0);
+    assert_eq!((bench.shown(3, 1), bench.shown(26, 1)), (vec![0x07], vec![0x00]));
+    assert_eq!(bench.shown(31, 2), [0xFF, 0xFF]);
+    // At every place of an access, and not in one that is refused.
+    for first in 19..=26 {
+        let mut bench = Bench::ready();
+        let mut bytes = [0xFF; 8];
+        assert_eq!(bench.event(Event::Write { address: first, count: 9, data: bytes }).answer, 4);
+        assert_eq!(bench.event(Event::Write { address: first, count: 0, data: bytes }).answer, 4);
+        bytes[26 - first as usize] = 0x00;
+        bench.write(first, &bytes);
+        assert_eq!(bench.shown(3, 1), [0x07]);
+        bytes[26 - first as usize] = 0x08;
+        bench.write(first, &bytes);
+        assert_eq!((bench.shown(3, 1), bench.shown(26, 11)), (vec![0x03], then_zeros(&[0x40], 11)));
+    }
+    // An address of 26 in the upper half is another byte.
+    let mut bench = Bench::ready();
+    bench.write(128 + 26, &[0x08]);
+    assert_eq!(bench.shown(3, 1), [0x07]);
+}
+
+#[test]
+fn a_reset_is_a_fresh_start_with_the_line_as_it_was() {
+    for line in [false, true] {
+        let mut bench = Bench::of(with_limits(usual_image(), 1000, 1000, 1000, 1000));
+        let mut fresh = bench.image;
+        assert_eq!(start(&mut fresh, &mut { Working::AT_START }), 0);
+        bench.write(145, &[0x10; 4]);
+        bench.write(143, &[0x0F]);
+        assert_eq!(bench.work(0).answer, 0);
+        bench.sample(0, 999);
+        bench.line(line);
+        assert_eq!(bench.write(26, &[0x48]), 0);
+        assert!(bench.image == fresh);
+        assert_eq!(bench.working, Working { line, ..Working::AT_START });
+        assert_eq!((bench.work(0).answer, bench.hardware(0)), (6, 6));
+        assert_eq!(bench.shown(126, 2), [0, 0]);
+        bench.write(127, &[0x11]);
+        assert_eq!((bench.shown(202, 1), bench.shown(206, 1)), (vec![0], vec![0]));
+        assert_eq!((bench.shown(186, 2), bench.shown(149, 4)), (vec![0, 0], vec![0; 4]));
+        assert_eq!(bench.module(), if line { 0x03 } else { 0x05 });
+    }
+}
+
+#[test]
+fn a_reset_drops_every_stage_of_an_apply() {
+    // Works so often on a group and resets; then the same Apply is new.
+    let reset_after = |staged: u8, steps: usize| {
+        let mut bench = Bench::ready();
+        bench.write(145, &[staged; 4]);
+        bench.write(143, &[0x0F]);
+        for _ in 0..steps {
+            assert_eq!(bench.work(0).answer, 0);
+        }
+        assert!(bench.working.lanes[3].in_progress());
+        assert_eq!(bench.write(26, &[0x08]), 0);
+        assert_eq!(bench.working, Working::AT_START);
+        assert_eq!(bench.image[P10 + 128..DP_STATE], [0; 128]);
+        assert_eq!(bench.image[DP_STATE + 4..], [0; 252]);
+        bench.write(127, &[0x10]);
+        assert_eq!(bench.apply(0, &[0x10; 4], 143, 0x0F), 1);
+    };
+    for steps in 0..=4 {
+        reset_after(0x10, steps);
+    }
+    reset_after(0x20, 0);
+    reset_after(0x00, 0);
+}
+
+#[test]
+fn a_reset_ends_conditions_and_commands() {
+    let mut bench = watched();
+    bench.lasting(135, 0x0F, 0x00);
+    bench.write(26, &[0x08]);
+    bench.write(127, &[0x11]);
+    assert_eq!(bench.twice(135, 1), [[0x00], [0x00]]);
+    let mut bench = commanded();
+    assert_eq!(bench.command(0x0040, 0, 0xBF), 0x01);
+    bench.write(26, &[0x08]);
+    bench.write(127, &[0x9F]);
+    assert_eq!((bench.shown(37, 1), bench.shown(128, 128)), (vec![0], vec![0; 128]));
+    assert_eq!((bench.shown(8, 1), bench.shown(39, 2)), (vec![0], vec![0x07, 0xFE]));
+}
+
+#[test]
+fn below_module_ready_an_apply_passes_and_its_path_stays() {
+    for events in 0..=2 {
+        let mut bench = Bench::new();
+        for _ in 0..events {
+            bench.module();
+        }
+        assert_eq!(bench.apply(0, &[0x10; 4], 143, 0x0F), 1);
+        assert_eq!([bench.hardware(0), bench.hardware(4)], [0, 6]);
+        bench.write(127, &[0x11]);
+        assert_eq!(bench.shown(202, 2), [0x11, 0x11]);
+        let moved = if events == 2 { 0x22 } else { 0x11 };
+        assert_eq!((bench.shown(128, 2), bench.shown(134, 1)), (vec![moved; 2], vec![0]));
+    }
+}
+
+#[test]
+fn bit_0_of_31_masks_the_module_state() {
+    for (masks, lower_3) in [(0x01, 0x07), (0xFE, 0x06), (0x00, 0x06), (0xFF, 0x07)] {
+        let mut bench = Bench::new();
+        bench.write(31, &[masks]);
+        bench.module();
+        assert_eq!(bench.module(), lower_3);
+        bench.write(31, &[!masks]);
+        assert_eq!(bench.shown(3, 1), [lower_3 ^ 1]);
+        assert_eq!((bench.shown(8, 1), bench.shown(3, 1)), (vec![0x01], vec![0x07]));
+    }
+}
+
+#[test]
+fn a_lent_module_state_that_is_none_of_the_four_stays() {
+    for state in 0..8u8 {
+        for rest in [0x01, 0xF1] {
+            let mut bench = Bench::lit();
+            bench.image[MODULE_STATE] = state << 1 | rest;
+            // Bits 7 to 4 are left alone; every such state holds its paths down.
+            assert_eq!(bench.hardware(2), 0);
+            let path = if state == 3 { 0x44 } else { 0x66 };
+            assert_eq!(bench.image[DP_STATE..DP_STATE + 4], [path, path, 0x11, 0x11]);
+            let next = match state {
+                1 => 2,
+                2 => 3,
+                4 => 1,
+                _ => state,
+            };
+            assert_eq!(bench.module() & 0xFE, next << 1 | rest & 0xF0);
+            bench.write(26, &[0x08]);
+            assert_eq!(bench.image[MODULE_STATE], 0x03);
+        }
+    }
+}
+
+#[test]
+fn what_a_refused_call_says_of_the_line() {
+    let on = Working { line: true, ..Working::AT_START };
+    let mut working = on;
+    let (unsound, mut flat) = ([0u8; IMAGE_LEN], [0u8; IMAGE_LEN]);
+    flat[2] = 0x80;
+    for event in [Event::Module, Event::Line { on: false }] {
+        let mut answer = |image: &[u8]| {
+            desk(&mut image.to_vec(), &mut working, &event, &mut []).answer
+        };
+        assert_eq!([answer(&flat[..895]), answer(&flat), answer(&unsound)], [1, 2, 3]);
+        assert_eq!(working, on);
+    }
+    let (mut bench, data) = (Bench::new(), [0xFF; 8]);
+    bench.line(true);
+    assert_eq!(bench.event(Event::Write { address: 26, count: 9, data }).answer, 4);
+    assert!(bench.working.line);
+    // Start has it off, refused or not.
+    assert_eq!(start(&mut bench.image, &mut bench.working), 0);
+    assert_eq!(start(&mut flat, &mut working), 2);
+    assert_eq!([bench.working, working], [Working::AT_START; 2]);
+}
+
 // ---- the editions of the night file ----
 
-/// An edition 1 file in edition 2 or 3, its page 9Fh filled with what start
+/// An edition 1 file in a later edition, its page 9Fh filled with what start
 /// wipes.
 fn in_edition(number: u8, file: &[u8]) -> Vec<u8> {
     let mut made = [&file[..784], &[0xC3; 128], &file[784..]].concat();
     made[2] = number;
     made[12..16].copy_from_slice(&912u32.to_be_bytes());
     made
+}
+
+/// An edition 1 file in each of the editions.
+fn in_every_edition(file: &[u8]) -> [Vec<u8>; 4] {
+    [file.to_vec(), in_edition(2, file), in_edition(3, file), in_edition(4, file)]
 }
 
 /// The image of a file with these records, each given by its first four bytes.
@@ -1079,12 +1469,13 @@ fn printed(file: &[u8]) -> String {
 
 #[test]
 fn every_edition_prints_the_same() {
-    for file in [in_edition(2, &example()), in_edition(3, &example())] {
+    for number in 2..=4 {
+        let file = in_edition(number, &example());
         assert_eq!(file.len(), example().len() + 128);
         assert_eq!(printed(&file).as_bytes(), night::replay(&example()));
     }
     // An edition 1 night can select page 9Fh, and finds zeros there.
-    for file in [example(), in_edition(2, &example()), in_edition(3, &example())] {
+    for file in in_every_edition(&example()) {
         let records = [[1, 127, 1, 0x9F], [1, 133, 1, 0xFF], [2, 128, 8, 0]];
         let text = "0 0\n1 0\n2 0 00 00 00 00 00 ff 00 00\n";
         assert_eq!(printed(&with_records(&file, &records)), text);
@@ -1092,19 +1483,21 @@ fn every_edition_prints_the_same() {
 }
 
 #[test]
-fn kind_5_lasts_in_edition_3_alone() {
-    let editions = [example(), in_edition(2, &example()), in_edition(3, &example())];
+fn kind_5_lasts_from_edition_3_on() {
+    let editions = in_every_edition(&example());
     let twice = [[1, 127, 1, 0x11], [5, 135, 0x0F, 0], [2, 135, 1, 0], [2, 135, 1, 0]];
     let (once, lasting) = ("0 0\n1 0\n2 0 0f\n3 0 00\n", "0 0\n1 0\n2 0 0f\n3 0 0f\n");
-    for (file, text) in editions.iter().zip([once, once, lasting]) {
+    for (file, text) in editions.iter().zip([once, once, lasting, lasting]) {
         assert_eq!(printed(&with_records(file, &twice)), text);
     }
     // The off mask is the fourth byte, which older editions do not use.
     let ended = [
         [1, 127, 1, 0x11], [5, 135, 0x0F, 0], [5, 135, 0x30, 0x3C], [2, 135, 1, 0], [2, 135, 1, 0],
     ];
-    let [first, second, third] = editions.map(|file| with_records(&file, &ended));
-    assert_eq!(printed(&third), "0 0\n1 0\n2 0\n3 0 3f\n4 0 33\n");
+    let [first, second, third, fourth] = editions.map(|file| with_records(&file, &ended));
+    for newer in [&third, &fourth] {
+        assert_eq!(printed(newer), "0 0\n1 0\n2 0\n3 0 3f\n4 0 33\n");
+    }
     for older in [&first, &second] {
         assert_eq!(night::replay(older), b"bad 9\n");
         assert_eq!(streamed(older), "0 0\n1 0\nbad 9\n");
@@ -1123,8 +1516,32 @@ fn samples_last_in_every_edition() {
     let mut file = example();
     file[16..784].copy_from_slice(&limits[..768]);
     let records = [[6, 0, 0x03, 0xE7], [1, 127, 1, 0x11], [2, 150, 1, 0], [2, 150, 1, 0]];
-    for file in [file.clone(), in_edition(2, &file), in_edition(3, &file)] {
+    for file in in_every_edition(&file) {
         assert_eq!(printed(&with_records(&file, &records)), "0 0\n1 0\n2 0 01\n3 0 01\n");
+    }
+}
+
+#[test]
+fn kinds_7_and_8_are_there_from_edition_4_on() {
+    let editions = in_every_edition(&example());
+    let text_of = |file: &[u8], record: [u8; 4]| printed(&with_records(file, &[record]));
+    for (number, file) in (1..).zip(&editions) {
+        let (done, bad) = ("0 0\n", "bad 9\n");
+        let text = if number == 4 { done } else { bad };
+        assert_eq!(text_of(file, [7, 0, 0, 0]), text, "module event in edition {}", number);
+        assert_eq!(text_of(file, [8, 0, 0, 0]), text, "line off in edition {}", number);
+        assert_eq!(text_of(file, [8, 1, 0, 0]), text, "line on in edition {}", number);
+        // Of the line no more can be said, and there is no kind above it.
+        for record in [[8, 2, 0, 0], [8, 3, 0, 0], [8, 0x80, 0, 0], [8, 0xFF, 0, 0], [9, 0, 0, 0]] {
+            assert_eq!(text_of(file, record), bad, "{:?} in edition {}", record, number);
+        }
+    }
+    // No byte behind the kind, or behind the one of the line, is used.
+    for (record, used) in [([7, 0, 0, 0], 1), ([8, 0, 0, 0], 2), ([8, 1, 0, 0], 2)] {
+        let file = with_records(&editions[3], &[record]);
+        for place in used..12 {
+            assert_eq!(printed(&with_byte(file.clone(), 912 + place, 1)), "bad 9\n");
+        }
     }
 }
 
@@ -1150,7 +1567,7 @@ fn an_edition_has_its_own_offset_and_length() {
         [&second[..], &[0]].concat(),
     ];
     // No other edition is read, whatever its offset.
-    for number in [0, 4, 5, 255] {
+    for number in [0, 5, 6, 255] {
         wrong.push(with_byte(first.clone(), 2, number));
         wrong.push(with_byte(second.clone(), 2, number));
         wrong.push(offset(&with_byte(second.clone(), 2, number), 1040));
@@ -1171,11 +1588,8 @@ fn an_edition_has_its_own_offset_and_length() {
 
 #[test]
 fn the_longest_file_of_an_edition() {
-    for (file, longest) in [
-        (example(), 60_784),
-        (in_edition(2, &example()), 60_912),
-        (in_edition(3, &example()), 60_912),
-    ] {
+    let longest = [60_784, 60_912, 60_912, 60_912];
+    for (file, longest) in in_every_edition(&example()).into_iter().zip(longest) {
         let mut file = file[..night_records(&file)].to_vec();
         file[4..8].copy_from_slice(&5000u32.to_be_bytes());
         file.resize(file.len() + 5000 * 12, 0);

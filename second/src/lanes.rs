@@ -1,7 +1,7 @@
-//! What the module remembers of its lanes beside the image, and sets of lanes:
-//! shared by the core and the soundness test.
+//! What the module remembers beside the image, of its lanes and of the
+//! low-power line, and sets of lanes: shared by the core and the soundness test.
 
-use crate::registers::LANE_FLAGS;
+use crate::registers::{LANES, LANE_FLAGS};
 
 /// Which trigger register started an Apply.
 #[derive(Clone, Copy, PartialEq, Eq, Debug)]
@@ -95,6 +95,19 @@ impl LaneRecord {
             Stage::InProgress(_) => true,
         }
     }
+}
+
+/// All that the module remembers beside the image.
+#[derive(Clone, Copy, PartialEq, Eq, Debug)]
+pub struct Working {
+    pub lanes: [LaneRecord; LANES],
+    /// Whether the low-power line is on; no register shows it.
+    pub line: bool,
+}
+
+impl Working {
+    /// As start leaves it.
+    pub const AT_START: Working = Working { lanes: [LaneRecord::IDLE; LANES], line: false };
 }
 
 /// The lanes of a set, lowest first.

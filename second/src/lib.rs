@@ -4,11 +4,12 @@
 //! From the ground up, each using only what stands before it:
 //!
 //! * `registers`: addresses and codes.
-//! * `lanes`: the lane records with what is on, and sets of lanes.
+//! * `lanes`: the lane records with what is on, the low-power line, and sets of
+//!   lanes.
 //! * `applications`: the list of descriptors.
 //! * `commands`: command messages on page 9Fh.
 //! * `soundness`: the six conditions (a) to (f) as a test.
-//! * `module`: `start` and the seven events, one by one (`desk`) or as a list
+//! * `module`: `start` and the nine events, one by one (`desk`) or as a list
 //!   (`desk_list`); `Module::step` is the same without the question of
 //!   soundness.
 //! * `night`: the check of a night file and the replay, from the file's

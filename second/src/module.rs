@@ -1,4 +1,4 @@
-//! The register core: start and the seven events.
+//! The register core: start and the nine events.
 
 use crate::applications::*;
 use crate::commands;
@@ -20,6 +20,10 @@ pub enum Event {
     /// A bit in both masks is on.
     LastingCondition { flag_byte: u8, on: u8, off: u8 },
     Sample { lane: u8, value: u16 },
+    /// The module goes one state on, if it can.
+    Module,
+    /// The low-power line is now on, or off.
+    Line { on: bool },
 }
 
 /// What an event gave back.
@@ -43,26 +47,36 @@ impl Outcome {
 }
 
 /// Puts the image into its start state and makes all lanes idle, with nothing
-/// on. A refusal (1, 2 or 10) leaves the image alone; the lanes are idle all
-/// the same.
-pub fn start(image: &mut [u8], lanes: &mut [LaneRecord; LANES]) -> u8 {
-    *lanes = [LaneRecord::IDLE; LANES];
+/// on and the low-power line off. A refusal (1, 2 or 10) leaves the image
+/// alone; what is beside it is as after start all the same.
+pub fn start(image: &mut [u8], working: &mut Working) -> u8 {
+    *working = Working::AT_START;
     let image = match <&mut [u8; IMAGE_LEN]>::try_from(image) {
         Ok(image) => image,
         Err(_) => return answer::IMAGE_LENGTH,
     };
     let refusal = start_refusal(image);
-    if refusal != answer::DONE {
-        return refusal;
+    if refusal == answer::DONE {
+        make_fresh(image);
     }
+    refusal
+}
+
+/// The image as start leaves it: what is kept, and else zeros, but in
+/// ModuleLowPwr without an interrupt, the line having a say, and every lane
+/// DPDeactivated.
+fn make_fresh(image: &mut [u8; IMAGE_LEN]) {
     image[3..39].fill(0);
     image[41..85].fill(0);
     image[118..128].fill(0);
     image[P10 + 128..].fill(0);
-    image[MODULE_STATE] = MODULE_READY;
-    image[DP_STATE..DP_STATE + 4].fill(0x11);
-    answer::DONE
+    image[MODULE_STATE] = module_state::LOW_PWR << MODULE_STATE_SHIFT | INTERRUPT_DEASSERTED;
+    image[MODULE_CONTROLS] = LOW_PWR_ALLOW_REQUEST_HW;
+    image[DP_STATE..DP_STATE + 4].copy_from_slice(&ALL_DEACTIVATED);
 }
+
+/// DPState of all eight lanes where each is DPDeactivated.
+const ALL_DEACTIVATED: [u8; 4] = [dp_state::DEACTIVATED * 0x11; 4];
 
 /// What start has against an image of the right length, flat memory first;
 /// 0 if nothing.
@@ -98,11 +112,11 @@ fn u16_at(image: &[u8; IMAGE_LEN], place: usize) -> u16 {
 /// first, then the event's own. An answer other than 0 changes nothing.
 pub fn desk(
     image: &mut [u8],
-    lanes: &mut [LaneRecord; LANES],
+    working: &mut Working,
     event: &Event,
     buffer: &mut [u8],
 ) -> Outcome {
-    match admit(image, lanes) {
+    match admit(image, working) {
         Ok(mut module) => module.step(event, buffer),
         Err(number) => Outcome::refused(number),
     }
@@ -113,11 +127,11 @@ pub fn desk(
 /// then nothing is changed.
 pub fn desk_list(
     image: &mut [u8],
-    lanes: &mut [LaneRecord; LANES],
+    working: &mut Working,
     events: &[Event],
     answers: &mut [u8],
 ) -> u8 {
-    let mut module = match admit(image, lanes) {
+    let mut module = match admit(image, working) {
         Ok(module) => module,
         Err(number) => return number,
     };
@@ -132,10 +146,7 @@ pub fn desk_list(
 }
 
 /// The three questions asked of a lent state, in their order.
-fn admit<'a>(
-    image: &'a mut [u8],
-    lanes: &'a mut [LaneRecord; LANES],
-) -> Result<Module<'a>, u8> {
+fn admit<'a>(image: &'a mut [u8], working: &'a mut Working) -> Result<Module<'a>, u8> {
     let image = match <&mut [u8; IMAGE_LEN]>::try_from(image) {
         Ok(image) => image,
         Err(_) => return Err(answer::IMAGE_LENGTH),
@@ -143,10 +154,10 @@ fn admit<'a>(
     if image[CHARACTERISTICS] & FLAT_MEMORY != 0 {
         return Err(answer::FLAT);
     }
-    if !soundness::sound(image, lanes) {
+    if !soundness::sound(image, &working.lanes) {
         return Err(answer::NOT_SOUND);
     }
-    Ok(Module { image, lanes })
+    Ok(Module { image, working })
 }
 
 /// Whether a byte of page 10h keeps what is written to it.
@@ -220,11 +231,11 @@ fn with_data_path_id(dp_configs: u64, id: u8) -> u8 {
     !nonzero_bytes((dp_configs ^ everywhere(id << 1)) & everywhere(0x0E))
 }
 
-/// The working state: the lent image and the lane records. Its steps take
-/// the state to be sound; `desk` asks first.
+/// A state at work: the lent image and what is beside it. Its steps take the
+/// state to be sound; `desk` asks first.
 pub struct Module<'a> {
     pub image: &'a mut [u8; IMAGE_LEN],
-    pub lanes: &'a mut [LaneRecord; LANES],
+    pub working: &'a mut Working,
 }
 
 impl<'a> Module<'a> {
@@ -254,6 +265,8 @@ impl<'a> Module<'a> {
                 self.lasting_condition(flag_byte, on, off)
             }
             Event::Sample { lane, value } => self.sample(lane, value),
+            Event::Module => self.module_event(),
+            Event::Line { on } => self.line(on),
         };
         if outcome.answer == answer::DONE {
             self.settle_interrupt();
@@ -311,10 +324,11 @@ impl<'a> Module<'a> {
     /// through.
     #[inline(always)]
     fn settle_interrupt(&mut self) {
+        const LOOKED_AT: u8 = COMMAND_COMPLETE | MODULE_STATE_CHANGED;
         let showing = (self.word(LANE_FLAGS) & !self.word(LANE_MASKS))
             | (self.word(LANE_FLAGS + 8) & !self.word(LANE_MASKS + 8))
             | (self.half_word(LANE_FLAGS + 16) & !self.half_word(LANE_MASKS + 16)) as u64
-            | (self.image[MODULE_FLAGS] & !self.image[MODULE_MASKS] & COMMAND_COMPLETE) as u64;
+            | (self.image[MODULE_FLAGS] & !self.image[MODULE_MASKS] & LOOKED_AT) as u64;
         self.image[MODULE_STATE] =
             (self.image[MODULE_STATE] & !INTERRUPT_DEASSERTED) | (showing == 0) as u8;
     }
@@ -378,17 +392,32 @@ impl<'a> Module<'a> {
         }
     }
 
-    /// Few lower bytes take a write; the page is selected in its turn.
+    /// Few lower bytes take a write; the page is selected in its turn. When
+    /// all are stored, the module is reset if its bit was among them.
     #[inline(never)]
     fn write_lower(&mut self, address: u8, count: u8, data: u64) {
         let bytes = data.to_le_bytes();
+        let mut resets = false;
         for (place, &byte) in (address as usize..).zip(&bytes[..count as usize]) {
             match place {
+                MODULE_CONTROLS => {
+                    self.image[place] = byte & !SOFTWARE_RESET;
+                    resets = byte & SOFTWARE_RESET != 0;
+                }
                 31..=36 | BANK_SELECT => self.image[place] = byte,
                 PAGE_SELECT => self.select_page(byte),
                 _ => {}
             }
         }
+        if resets {
+            self.reset();
+        }
+    }
+
+    /// A fresh start, whatever was under way, but the line stays as it is.
+    fn reset(&mut self) {
+        make_fresh(self.image);
+        self.working.lanes = Working::AT_START.lanes;
     }
 
     /// Stores up to eight bytes on page 10h, those that take it, at once.
@@ -465,11 +494,13 @@ impl<'a> Module<'a> {
         }
         let bytes = &mut buffer[..range.len()];
         bytes.copy_from_slice(&self.image[range.clone()]);
-        // The triggers are never stored, but a lent image may hold something
-        // in their bytes.
-        for trigger in [APPLY_DP_INIT, APPLY_IMMEDIATE] {
-            if range.contains(&trigger) {
-                bytes[trigger - range.start] = 0;
+        // Triggers are never stored, nor is the reset, but a lent image may
+        // hold something in their places.
+        for (place, bits) in
+            [(APPLY_DP_INIT, 0xFF), (APPLY_IMMEDIATE, 0xFF), (MODULE_CONTROLS, SOFTWARE_RESET)]
+        {
+            if range.contains(&place) {
+                bytes[place - range.start] &= !bits;
             }
         }
         self.after_read(range);
@@ -493,7 +524,7 @@ impl<'a> Module<'a> {
             return;
         }
         let covered = (1u32 << (end - LANE_FLAGS)) - (1 << (first - LANE_FLAGS));
-        for (lane, record) in self.lanes.iter().enumerate() {
+        for (lane, record) in self.working.lanes.iter().enumerate() {
             let mut left = record.on & covered;
             while left != 0 {
                 self.image[LANE_FLAGS + left.trailing_zeros() as usize] |= 1 << lane;
@@ -575,7 +606,7 @@ impl<'a> Module<'a> {
         self.set_nibbles(CONFIG_STATUS, group, config_status::IN_PROGRESS);
         for lane in LaneSet(group) {
             let held = self.staged(lane);
-            self.lanes[lane as usize & 7].stage =
+            self.working.lanes[lane as usize & 7].stage =
                 Stage::InProgress(Apply { group, trigger, held, verdict });
         }
     }
@@ -699,7 +730,7 @@ impl<'a> Module<'a> {
         if lane > 7 {
             return Outcome::refused(answer::NO_SUCH_PLACE);
         }
-        let apply = match self.lanes[lane as usize & 7].stage {
+        let apply = match self.working.lanes[lane as usize & 7].stage {
             Stage::InProgress(apply) => apply,
             Stage::Idle => return Outcome::refused(answer::NOTHING_THERE),
         };
@@ -735,7 +766,7 @@ impl<'a> Module<'a> {
         // An empty byte has eight trailing zeros, which is NO_NEXT_LANE.
         let next = above.trailing_zeros() as u8;
         for lane in LaneSet(group) {
-            if let Stage::InProgress(apply) = &mut self.lanes[lane as usize & 7].stage {
+            if let Stage::InProgress(apply) = &mut self.working.lanes[lane as usize & 7].stage {
                 apply.verdict = Verdict::Pass { next };
             }
         }
@@ -744,7 +775,7 @@ impl<'a> Module<'a> {
     /// Copies a lane's held settings into the active set.
     #[inline(always)]
     fn copy(&mut self, lane: u8) {
-        let new = match self.lanes[lane as usize & 7].stage {
+        let new = match self.working.lanes[lane as usize & 7].stage {
             Stage::InProgress(apply) => as_copied(apply.held),
             Stage::Idle => return,
         };
@@ -764,7 +795,7 @@ impl<'a> Module<'a> {
     fn close(&mut self, group: u8, code: u8) {
         self.set_nibbles(CONFIG_STATUS, group, code);
         for lane in LaneSet(group) {
-            self.lanes[lane as usize & 7].stage = Stage::Idle;
+            self.working.lanes[lane as usize & 7].stage = Stage::Idle;
         }
     }
 
@@ -788,6 +819,49 @@ impl<'a> Module<'a> {
         }
     }
 
+    // ---- the module's own states ----
+
+    #[inline(always)]
+    fn module_state(&self) -> u8 {
+        (self.image[MODULE_STATE] & MODULE_STATE_BITS) >> MODULE_STATE_SHIFT
+    }
+
+    /// LowPwrS: low power is asked for in lower 26, or by the line where that
+    /// lets it.
+    #[inline(always)]
+    fn low_power(&self) -> bool {
+        let controls = self.image[MODULE_CONTROLS];
+        controls & LOW_PWR_REQUEST_SW != 0
+            || controls & LOW_PWR_ALLOW_REQUEST_HW != 0 && self.working.line
+    }
+
+    /// One state on, if there is a way; the flag rises where a steady state is
+    /// entered that is not to be left at once.
+    fn module_event(&mut self) -> Outcome {
+        use module_state::*;
+        let low_power = self.low_power();
+        let state = self.module_state();
+        let next = match state {
+            LOW_PWR if !low_power => PWR_UP,
+            PWR_UP if low_power => PWR_DN,
+            PWR_UP => READY,
+            READY if low_power && self.image[DP_STATE..DP_STATE + 4] == ALL_DEACTIVATED => PWR_DN,
+            PWR_DN => LOW_PWR,
+            _ => return Outcome::DONE,
+        };
+        self.image[MODULE_STATE] =
+            (self.image[MODULE_STATE] & !MODULE_STATE_BITS) | next << MODULE_STATE_SHIFT;
+        if next == READY || next == LOW_PWR && low_power {
+            self.image[MODULE_FLAGS] |= MODULE_STATE_CHANGED;
+        }
+        Outcome::DONE
+    }
+
+    fn line(&mut self, on: bool) -> Outcome {
+        self.working.line = on;
+        Outcome::DONE
+    }
+
     // ---- hardware, conditions, samples ----
 
     #[inline(always)]
@@ -803,7 +877,8 @@ impl<'a> Module<'a> {
             return Outcome::refused(answer::NOTHING_THERE);
         }
         use dp_state::*;
-        let deinit = self.image[DP_DEINIT] & path != 0;
+        let held_down = self.module_state() != module_state::READY || self.low_power();
+        let deinit = held_down || self.image[DP_DEINIT] & path != 0;
         let again = deinit || self.image[DP_INIT_PENDING] & path != 0;
         let muted = self.image[OUTPUT_DISABLE_TX] | self.image[OUTPUT_SQUELCH_FORCE_TX];
         let deactivate = again || muted & path != 0;
@@ -853,7 +928,7 @@ impl<'a> Module<'a> {
         };
         self.image[flag] |= on;
         for lane in LaneSet(on | off) {
-            self.lanes[lane as usize & 7].set_on(flag, on >> lane & 1 != 0);
+            self.working.lanes[lane as usize & 7].set_on(flag, on >> lane & 1 != 0);
         }
         Outcome::DONE
     }
@@ -873,7 +948,7 @@ impl<'a> Module<'a> {
         ];
         for (flag, holds) in compared {
             self.image[flag] |= (holds as u8) << lane;
-            self.lanes[lane as usize & 7].set_on(flag, holds);
+            self.working.lanes[lane as usize & 7].set_on(flag, holds);
         }
         Outcome::DONE
     }

@@ -22,13 +22,16 @@ pub struct Edition {
     /// Whether kind 5 is the lasting condition (flag byte, on mask, off mask)
     /// or the one-time one (flag byte, mask).
     pub lasting: bool,
+    /// Whether there are kinds 7, the module event, and 8, the low-power line.
+    pub power: bool,
 }
 
 /// Every edition that is read.
-pub const EDITIONS: [Edition; 3] = [
-    Edition { number: 1, image_len: 768, lasting: false },
-    Edition { number: 2, image_len: 896, lasting: false },
-    Edition { number: 3, image_len: 896, lasting: true },
+pub const EDITIONS: [Edition; 4] = [
+    Edition { number: 1, image_len: 768, lasting: false, power: false },
+    Edition { number: 2, image_len: 896, lasting: false, power: false },
+    Edition { number: 3, image_len: 896, lasting: true, power: false },
+    Edition { number: 4, image_len: 896, lasting: true, power: true },
 ];
 
 impl Edition {
@@ -104,7 +107,7 @@ pub fn read_header(header: &[u8; HEADER_LEN]) -> Option<Header> {
 
 /// How many bytes a record of each kind uses; a write's data come on top, and
 /// the off mask of a lasting condition.
-const USED_BYTES: [u8; 7] = [0, 3, 3, 2, 2, 3, 4];
+const USED_BYTES: [u8; 9] = [0, 3, 3, 2, 2, 3, 4, 1, 2];
 
 /// For a number of used bytes: all ones in the unused bytes of a record's
 /// first eight and last four, first byte lowest.
@@ -121,18 +124,20 @@ const fn unused_bits() -> [(u64, u32); 16] {
     table
 }
 
-/// Whether a record's kind is one of the six and what it does not use in its
-/// edition is 0.
+/// Whether a record's kind is one of its edition, what it does not use there
+/// is 0, and the line is said to be on or off.
 #[inline(always)]
 pub fn well_formed(edition: Edition, record: &[u8; RECORD_LEN]) -> bool {
     let kind = record[0];
-    if kind == 0 || kind > 6 {
+    let last_kind = if edition.power { 8 } else { 6 };
+    if kind == 0 || kind > last_kind {
         return false;
     }
     let mut used = USED_BYTES[kind as usize];
     match kind {
         1 => used += record[2].min(8),
         5 => used += edition.lasting as u8,
+        8 if record[1] > 1 => return false,
         _ => {}
     }
     let (mut front, mut back) = ([0u8; 8], [0u8; 4]);
@@ -166,7 +171,9 @@ pub fn event_of(edition: Edition, record: &[u8; RECORD_LEN]) -> Event {
             Event::LastingCondition { flag_byte: first, on: second, off: third }
         }
         5 => Event::Condition { flag_byte: first, mask: second },
-        _ => Event::Sample { lane: first, value: u16::from_be_bytes([second, third]) },
+        6 => Event::Sample { lane: first, value: u16::from_be_bytes([second, third]) },
+        7 => Event::Module,
+        _ => Event::Line { on: first == 1 },
     }
 }
 
@@ -199,14 +206,14 @@ pub fn replay(file: &[u8]) -> Vec<u8> {
 
 fn replay_night(night: &Night) -> Vec<u8> {
     let mut image = night.image;
-    let mut lanes = [LaneRecord::IDLE; LANES];
-    start(&mut image, &mut lanes);
-    let mut module = Module { image: &mut image, lanes: &mut lanes };
+    let mut working = Working::AT_START;
+    start(&mut image, &mut working);
+    let mut module = Module { image: &mut image, working: &mut working };
     let mut printed = Printed::with_room_for(night.len());
     for event in night.events() {
         if let Event::Read { address, count } = event {
-            // Printed straight from the image: the trigger bytes are 0 there
-            // from start on, so no read has to hide them.
+            // Printed straight from the image: the trigger bytes and the reset
+            // bit are 0 there from start on, so no read has to hide them.
             match module.read_range(address, count) {
                 Ok(range) => {
                     printed.line_with(&module.image[range.clone()]);

@@ -33,13 +33,22 @@ pub const STEPPED_CONFIG_ONLY: u8 = 0x40;
 /// Lower 3: ModuleState in bits 3-1, InterruptDeasserted in bit 0.
 pub const MODULE_STATE: usize = 3;
 pub const INTERRUPT_DEASSERTED: u8 = 0x01;
-/// ModuleReady with no interrupt.
-pub const MODULE_READY: u8 = 0x07;
+/// Where the module's state stands in lower 3.
+pub const MODULE_STATE_SHIFT: u8 = 1;
+pub const MODULE_STATE_BITS: u8 = 0x0E;
 /// Lower 8-9: module flags, cleared by reading.
 pub const MODULE_FLAGS: usize = 8;
 pub const MODULE_FLAGS_END: usize = 10;
 /// Bit 6 of lower 8: a command message has been dealt with.
 pub const COMMAND_COMPLETE: u8 = 0x40;
+/// Bit 0 of lower 8: the module has come to a state that it may stay in.
+pub const MODULE_STATE_CHANGED: u8 = 0x01;
+/// Lower 26: bit 6 lets the low-power line have a say, bit 4 asks for low
+/// power, and bit 3, which is never stored, resets the module.
+pub const MODULE_CONTROLS: usize = 26;
+pub const LOW_PWR_ALLOW_REQUEST_HW: u8 = 0x40;
+pub const LOW_PWR_REQUEST_SW: u8 = 0x10;
+pub const SOFTWARE_RESET: u8 = 0x08;
 /// Lower 31: masks of lower 8.
 pub const MODULE_MASKS: usize = 31;
 /// Lower 37: how the last command message ended.
@@ -131,6 +140,14 @@ pub const REPLY_CODE: usize = P9F + 135;
 /// Body and reply share one place.
 pub const BODY: usize = P9F + 136;
 pub const BODY_ROOM: usize = 120;
+
+/// Module states (lower 3, bits 3-1).
+pub mod module_state {
+    pub const LOW_PWR: u8 = 1;
+    pub const PWR_UP: u8 = 2;
+    pub const READY: u8 = 3;
+    pub const PWR_DN: u8 = 4;
+}
 
 /// Data path states (11h:128-131).
 pub mod dp_state {

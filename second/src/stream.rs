@@ -34,7 +34,7 @@ pub struct Stream {
     image: [u8; IMAGE_LEN],
     /// What the header says, once it has come.
     edition: Edition,
-    lanes: [LaneRecord; LANES],
+    working: Working,
     /// Records that are still to come.
     left: u32,
     /// The index of the next line.
@@ -50,7 +50,7 @@ impl Stream {
             record: [0; RECORD_LEN],
             image: [0; IMAGE_LEN],
             edition: EDITIONS[0],
-            lanes: [LaneRecord::IDLE; LANES],
+            working: Working::AT_START,
             left: 0,
             next: 0,
         }
@@ -98,7 +98,7 @@ impl Stream {
                 }
                 None => self.bad(answer::MALFORMED, printed),
             },
-            Part::Image => match start(&mut self.image, &mut self.lanes) {
+            Part::Image => match start(&mut self.image, &mut self.working) {
                 answer::DONE => self.await_record(),
                 refusal => self.bad(refusal, printed),
             },
@@ -118,7 +118,7 @@ impl Stream {
     }
 
     fn replay_record(&mut self, printed: &mut Vec<u8>) {
-        let mut module = Module { image: &mut self.image, lanes: &mut self.lanes };
+        let mut module = Module { image: &mut self.image, working: &mut self.working };
         let mut read = [0u8; 128];
         let outcome = module.step(&event_of(self.edition, &self.record), &mut read);
         printed.extend_from_slice(format!("{} {}", self.next, outcome.answer).as_bytes());

@@ -1,9 +1,10 @@
 //! Checks of the papers' claims: soundness, and demand 3.
 
-use crate::aims::{Conditions, Maker};
+use crate::aims::{Kinds, Maker};
 use crate::lasting::lasts_plainly;
 use crate::messages::{left_by_write, runs_command};
 use crate::nights::Made;
+use crate::power::{all_deactivated, is_reset, powers_plainly};
 use crate::rng::Rng;
 use crate::rules::interrupts;
 use crate::sound_states::make_sound_state;
@@ -17,6 +18,7 @@ use second::soundness;
 pub struct Claims {
     pub events: u64,
     pub commands: u64,
+    pub resets: u64,
     pub half_copied: u64,
     pub made_states: u64,
     pub made_events: u64,
@@ -31,7 +33,7 @@ impl Claims {
         let told = |at: usize, event: &Event, what: String| {
             format!("after event {} ({:?}): {}", at, event, what)
         };
-        if let Some(broken) = soundness::unsound_at(&now.image, &now.lanes) {
+        if let Some(broken) = soundness::unsound_at(&now.image, &now.working.lanes) {
             return Err(format!("start is not sound: {:?}", broken));
         }
         for (at, event) in made.events.iter().enumerate() {
@@ -45,6 +47,7 @@ impl Claims {
             let (late_outcome, late_read) = late.step_late(event);
             self.events += 1;
             self.commands += (outcome.answer == 0 && is_command(&before, event)) as u64;
+            self.resets += (outcome.answer == 0 && is_reset(event)) as u64;
             if now.image != late.image {
                 self.half_copied += 1;
             }
@@ -56,8 +59,11 @@ impl Claims {
                     return Err(told(at, event, "read bytes differ".to_string()));
                 }
             }
-            if let Some(broken) = soundness::unsound_at(&now.image, &now.lanes) {
+            if let Some(broken) = soundness::unsound_at(&now.image, &now.working.lanes) {
                 return Err(told(at, event, format!("not sound, {:?}", broken)));
+            }
+            if !dark_below_ready(&now) {
+                return Err(told(at, event, "a path is up below ModuleReady".to_string()));
             }
             same_but_left_out(&now, &late).map_err(|what| told(at, event, what))?;
         }
@@ -67,34 +73,34 @@ impl Claims {
     /// Makes a sound state that no start need lead to, and goes on from it.
     pub fn made_state(&mut self, rng: &mut Rng) -> Result<(), String> {
         let state = make_sound_state(rng);
-        if !soundness::sound(&state.image, &state.lanes) {
+        if !soundness::sound(&state.image, &state.working.lanes) {
             return Ok(());
         }
         self.made_states += 1;
         // With no group half way, the late run can begin here as well.
         let fresh = (0..8).filter_map(|lane| state.apply(lane)).all(|apply| passing(&apply).is_none());
         let mut late = if fresh { Some(state.clone()) } else { None };
-        let mut maker = Maker::from(Rng(rng.next()), state, true, Conditions::Both);
+        let mut maker = Maker::from(Rng(rng.next()), state, true, Kinds::ALL);
         for _ in 0..if fresh { 60 } else { 12 } {
             let event = maker.next();
             let before = maker.state.clone();
             let mut buffer = [0u8; 128];
-            let outcome = desk(&mut maker.state.image, &mut maker.state.lanes, &event, &mut buffer);
+            let now = &mut maker.state;
+            let outcome = desk(&mut now.image, &mut now.working, &event, &mut buffer);
             self.made_events += 1;
-            let broken = soundness::unsound_at(&maker.state.image, &maker.state.lanes);
+            let broken = soundness::unsound_at(&now.image, &now.working.lanes);
             if outcome.answer == 3 || broken.is_some() {
                 return Err(format!(
                     "from a made sound state, {:?} leads to {:?}; records before {:?}; image before {:02x?}",
-                    event, broken, before.lanes, &before.image[..]
+                    event, broken, before.working, &before.image[..]
                 ));
             }
-            if outcome.answer != 0
-                && (before.image != maker.state.image || before.lanes != maker.state.lanes)
-            {
+            if outcome.answer != 0 && before != maker.state {
                 return Err(format!("refused {:?} changed something", event));
             }
             if outcome.answer == 0 {
                 plainly(&before, &event, &maker.state)?;
+                reset_bit_reads_as_0(&event, &buffer)?;
             }
             if let Some(late) = &mut late {
                 self.made_late_events += 1;
@@ -118,8 +124,30 @@ fn is_command(before: &State, event: &Event) -> bool {
     }
 }
 
-/// Holds an event that is done against the plain rules of page 9Fh, of what is on and of the
-/// interrupt.
+/// In every state reached from start the module is in one of its four states, and
+/// outside ModuleReady no path is up.
+fn dark_below_ready(state: &State) -> bool {
+    match state.module_state() {
+        3 => true,
+        1 | 2 | 4 => all_deactivated(state),
+        _ => false,
+    }
+}
+
+/// Bit 3 of lower 26 is 0 in what is read, also where a lent image has it at 1.
+fn reset_bit_reads_as_0(event: &Event, read: &[u8]) -> Result<(), String> {
+    match *event {
+        Event::Read { address: address @ 0..=26, count }
+            if address + count > 26 && read[26 - address as usize] & 0x08 != 0 =>
+        {
+            Err(format!("{:?} shows the reset bit", event))
+        }
+        _ => Ok(()),
+    }
+}
+
+/// Holds an event that is done against the plain rules of page 9Fh, of the module's states, of
+/// what is on and of the interrupt.
 fn plainly(before: &State, event: &Event, after: &State) -> Result<(), String> {
     if let Event::Write { address, count, data } = *event {
         let on_9fh = address >= 128 && before.page() == 0x9F;
@@ -127,6 +155,7 @@ fn plainly(before: &State, event: &Event, after: &State) -> Result<(), String> {
             return Err(format!("{:?} on page 9Fh leaves otherwise than the plain rule", event));
         }
     }
+    powers_plainly(before, event, after)?;
     lasts_plainly(before, event, after)?;
     if (after.image[3] & 1 == 0) != interrupts(&after.image) {
         return Err(format!("{:?} leaves the interrupt otherwise than the plain rule", event));
@@ -151,8 +180,8 @@ fn left_out(state: &State) -> [u8; IMAGE_LEN] {
 }
 
 fn same_but_left_out(one: &State, other: &State) -> Result<(), String> {
-    if one.lanes != other.lanes {
-        return Err("lane records differ".to_string());
+    if one.working != other.working {
+        return Err("lane records or lines differ".to_string());
     }
     let bits = left_out(one);
     for place in 0..IMAGE_LEN {

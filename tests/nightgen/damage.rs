@@ -2,7 +2,7 @@
 
 use crate::coverage::Coverage;
 use crate::image::{put_limits, turned_round};
-use crate::nights::{make_night, night_file, FIRST, SECOND, THIRD};
+use crate::nights::{make_night, night_file, FIRST, FOURTH, SECOND, THIRD};
 use crate::rng::Rng;
 use second::night::{Edition, EDITIONS};
 
@@ -32,7 +32,7 @@ impl Damage {
     /// seed gives does not depend on it.
     fn long_night(&self) -> Vec<u8> {
         let mut rng = self.rng.clone();
-        night_file(THIRD, &make_night(&mut rng, THIRD, 20_000, true, &mut Coverage::default()))
+        night_file(FOURTH, &make_night(&mut rng, FOURTH, 20_000, true, &mut Coverage::default()))
     }
 
     fn list(&mut self) {
@@ -45,9 +45,10 @@ impl Damage {
             list_lengths(&mut list, whole, &none, &longest);
             list_flat(&mut list, whole, &none, &longest);
         }
-        let [first, second, third] = &wholes;
-        list_editions(&mut list, first, second);
-        list_editions(&mut list, first, third);
+        let [first, second, third, fourth] = &wholes;
+        for newer in [second, third, fourth] {
+            list_editions(&mut list, first, newer);
+        }
         // Faults that the streaming form finds late, some of them behind lines above 5,000.
         let long = self.long_night();
         list.push(("above the longest", with(&long, record_at(&long, 12_345), 0)));
@@ -57,9 +58,11 @@ impl Damage {
         list.push(("kind", [&bad[..], second].concat()));
         list_records(&mut list, &wholes);
         list_conditions(&mut list, &wholes);
+        list_power(&mut list, &wholes);
         list_limits(&mut list, second, &[0, 1, 2]);
         list_limits(&mut list, first, &[1]);
         list_limits(&mut list, third, &[1]);
+        list_limits(&mut list, fourth, &[1]);
         self.listed = list;
         self.listed.reverse();
     }
@@ -69,7 +72,7 @@ impl Damage {
             return listed;
         }
         let length = 1 + self.rng.below(60);
-        let edition = self.rng.pick(&[FIRST, SECOND, THIRD, THIRD]);
+        let edition = self.rng.pick(&[FIRST, SECOND, THIRD, FOURTH, FOURTH, FOURTH]);
         let mut file = self.night(edition, length);
         let records = records_at(&file);
         match self.rng.below(10) {
@@ -221,11 +224,11 @@ fn list_editions(list: &mut Listed, first: &[u8], second: &[u8]) {
         list.push((KIND, flat(&under(file, other.0, own.1))));
         // Without records the length is that of the other edition's beginning.
         list.push((KIND, under(&counted(&file[..own.1 as usize], 0), other.0, other.1)));
-        for number in [0, 4, 5, 255] {
+        for number in [0, 5, 6, 255] {
             list.push(("edition that there is not", under(file, number, own.1)));
             list.push(("edition that there is not", flat(&under(file, number, own.1))));
         }
-        list.push(("edition that there is not", under(file, 4, of_second.1 + 128)));
+        list.push(("edition that there is not", under(file, 5, of_second.1 + 128)));
     }
     // A first night of 128 bytes more is as long as a second one, and the other way round.
     let longer = [first, &[0; 128][..]].concat();
@@ -234,10 +237,10 @@ fn list_editions(list: &mut Listed, first: &[u8], second: &[u8]) {
 }
 
 /// Kinds and unused bytes; the editions take turns, since records are the same
-/// but for conditions.
-fn list_records(list: &mut Listed, wholes: &[Vec<u8>; 3]) {
-    for (at, whole) in [0, 9, 19].iter().zip(wholes.iter().cycle()) {
-        for kind in [0, 7, 8, 0x11, 0x81, 0xFF] {
+/// but for conditions and the events of edition 4 alone.
+fn list_records(list: &mut Listed, wholes: &[Vec<u8>; 4]) {
+    for (at, whole) in [0, 9, 19, 7].iter().zip(wholes) {
+        for kind in [0, 9, 0x11, 0x81, 0xFF] {
             list.push(("kind", with(whole, record_at(whole, *at), kind)));
         }
     }
@@ -270,6 +273,13 @@ fn with_record(whole: &[u8], beginning: [u8; 4]) -> Vec<u8> {
     file
 }
 
+/// The beginning of a whole file with one record, which begins with these bytes.
+fn alone(whole: &[u8], beginning: [u8; 4]) -> Vec<u8> {
+    let file = counted(&with_record(whole, beginning), 1);
+    let (begin, changed) = (record_at(whole, 0), record_at(whole, CHANGED));
+    [&file[..begin], &file[changed..changed + 12]].concat()
+}
+
 /// Every byte that a record does not use, one at a time.
 fn list_unused(list: &mut Listed, file: &[u8], used: usize) {
     for place in used..12 {
@@ -278,11 +288,11 @@ fn list_unused(list: &mut Listed, file: &[u8], used: usize) {
     }
 }
 
-/// Kind 5: three bytes used in editions 1 and 2, four in edition 3, whose files
-/// are else as those of edition 2.
-fn list_conditions(list: &mut Listed, wholes: &[Vec<u8>; 3]) {
+/// Kind 5: three bytes used in editions 1 and 2, four from edition 3 on, whose
+/// files are else as those of edition 2.
+fn list_conditions(list: &mut Listed, wholes: &[Vec<u8>; 4]) {
     const OLDER: &str = "off mask in an older edition";
-    let [first, second, third] = wholes;
+    let [first, second, third, fourth] = wholes;
     for whole in [first, second] {
         let file = with_record(whole, [5, 136, 0x0F, 0]);
         list.push(("whole", file.clone()));
@@ -293,8 +303,9 @@ fn list_conditions(list: &mut Listed, wholes: &[Vec<u8>; 3]) {
         list.push((OLDER, flat(&with_record(whole, [5, 136, 0x0F, 0x30]))));
         list.push((OLDER, with_record(whole, [5, 7, 0, 0x80])));
     }
-    for beginning in [[5, 136, 0x0F, 0x30], [5, 148, 0, 0xFF], [5, 135, 0xFF, 0], [5, 7, 0, 0x80]] {
-        let file = with_record(third, beginning);
+    let lasting = [[5, 136, 0x0F, 0x30], [5, 148, 0, 0xFF], [5, 135, 0xFF, 0], [5, 7, 0, 0x80]];
+    for (beginning, whole) in lasting.into_iter().zip([third, fourth].into_iter().cycle()) {
+        let file = with_record(whole, beginning);
         list.push(("whole", file.clone()));
         list_unused(list, &file, 4);
     }
@@ -303,11 +314,43 @@ fn list_conditions(list: &mut Listed, wholes: &[Vec<u8>; 3]) {
     list.push(("whole", with(&with_record(second, [5, 136, 0x0F, 0]), 2, 3)));
     list.push((OLDER, with(&with_record(third, [5, 136, 0x0F, 0x30]), 2, 2)));
     let begin = record_at(third, 0);
-    let one = counted(&with_record(third, [5, 136, 0x0F, 0]), 1);
-    let one = [&one[..begin], &one[begin + 12 * CHANGED..begin + 12 * (CHANGED + 1)]].concat();
+    let one = alone(third, [5, 136, 0x0F, 0]);
     list.push(("whole", with(&one, 2, 2)));
     list.push(("whole", with(&one, begin + 3, 0x30)));
     list.push((OLDER, with(&with(&one, begin + 3, 0x30), 2, 2)));
+}
+
+/// Kinds 7 and 8, which edition 4 alone has; its files are else as those of
+/// edition 3.
+fn list_power(list: &mut Listed, wholes: &[Vec<u8>; 4]) {
+    const OLDER: &str = "module event or line in an older edition";
+    const NEITHER: &str = "line neither on nor off";
+    let [_, _, third, fourth] = wholes;
+    let (module, off, on) = ([7, 0, 0, 0], [8, 0, 0, 0], [8, 1, 0, 0]);
+    for older in &wholes[..3] {
+        for beginning in [module, off, on] {
+            list.push((OLDER, with_record(older, beginning)));
+        }
+        list.push((OLDER, flat(&with_record(older, module))));
+        list.push((OLDER, with_record(older, [8, 2, 0, 0])));
+    }
+    for (beginning, used) in [(module, 1), (off, 2), (on, 2)] {
+        let file = with_record(fourth, beginning);
+        list.push(("whole", file.clone()));
+        list_unused(list, &file, used);
+    }
+    for byte in [2, 3, 0x10, 0x80, 0x81, 0xFF] {
+        list.push((NEITHER, with_record(fourth, [8, byte, 0, 0])));
+    }
+    list.push((NEITHER, flat(&with_record(fourth, [8, 2, 0, 0]))));
+    // Nights of edition 3 are whole as nights of edition 4; the other way round only those
+    // without these events are.
+    list.push(("whole", with(third, 2, 4)));
+    list.push(("whole", with(&alone(fourth, [5, 136, 0x0F, 0x30]), 2, 3)));
+    for beginning in [module, off, on] {
+        list.push(("whole", alone(fourth, beginning)));
+        list.push((OLDER, with(&alone(fourth, beginning), 2, 3)));
+    }
 }
 
 fn list_flat(list: &mut Listed, whole: &[u8], none: &[u8], longest: &[u8]) {

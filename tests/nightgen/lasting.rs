@@ -2,6 +2,7 @@
 //! bytes beside them. Held against the core after every event.
 
 use crate::image::limit;
+use crate::power::is_reset;
 use crate::state::State;
 use second::module::Event;
 use second::registers::*;
@@ -22,7 +23,7 @@ pub fn index(flag_byte: u8) -> usize {
 pub fn on(state: &State) -> ByFlag {
     let mut on = [0; 20];
     for (k, lanes) in on.iter_mut().enumerate() {
-        *lanes = state.lanes_where(|lane| state.lanes[lane as usize].on >> k & 1 != 0);
+        *lanes = state.lanes_where(|lane| state.working.lanes[lane as usize].on >> k & 1 != 0);
     }
     on
 }
@@ -55,6 +56,7 @@ fn compared(image: &[u8; IMAGE_LEN], value: u16) -> [(u8, bool); 4] {
 fn left_on(before: &State, event: &Event) -> ByFlag {
     let mut left = on(before);
     match *event {
+        Event::Write { .. } if is_reset(event) => left = [0; 20],
         Event::LastingCondition { flag_byte, on, off } => {
             let lanes = &mut left[index(flag_byte)];
             *lanes = *lanes & !off | on;
@@ -75,6 +77,7 @@ fn left_on(before: &State, event: &Event) -> ByFlag {
 fn left_flags(before: &State, event: &Event) -> ByFlag {
     let mut left = flags(before);
     match *event {
+        Event::Write { .. } if is_reset(event) => left = [0; 20],
         Event::Condition { flag_byte, mask } => left[index(flag_byte)] |= mask,
         Event::LastingCondition { flag_byte, on, .. } => left[index(flag_byte)] |= on,
         Event::Sample { lane, value } => {

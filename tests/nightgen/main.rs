@@ -3,13 +3,15 @@
 //! Every night is made event by event against the second program's core, so
 //! that the generator knows the state and can aim: at lanes in progress, at
 //! paths in a given state, at the edges of an access, at command messages that
-//! are right but for one byte, at flags that are on. A plain restatement of
-//! grouping, verdicts, commands and what is on is held against the core on the
-//! way. The same seed always gives the same files.
+//! are right but for one byte, at flags that are on, at the module's own states.
+//! A plain restatement of grouping, verdicts, commands, the module's states and
+//! what is on is held against the core on the way. The same seed always gives the
+//! same files.
 //!
 //! * `rng`, `state`: random numbers; the state a night has reached.
-//! * `rules`, `messages`, `lasting`: grouping, verdicts, the interrupt, command
-//!   messages and what is on, said plainly.
+//! * `rules`, `messages`, `power`, `lasting`: grouping, verdicts, the interrupt,
+//!   command messages, the module's states with its reset, and what is on, said
+//!   plainly.
 //! * `image`, `aims`, `nights`: images, events that aim at the state, and the
 //!   nights and files made of them.
 //! * `coverage`: what must occur, and the counts of what did.
@@ -31,6 +33,7 @@ mod messages;
 mod nights;
 mod options;
 mod pieces;
+mod power;
 mod rng;
 mod rules;
 mod sound_states;
@@ -40,7 +43,9 @@ use self::claims::Claims;
 use self::coverage::Coverage;
 use self::damage::Damage;
 use self::image::{limits, put_limits, turned_round};
-use self::nights::{edition_of, make_night, night_file, night_length, FIRST, REFUSED_EVERY};
+use self::nights::{
+    edition_of, make_night, night_file, night_length, FOURTH, REFUSED_EVERY, THIRD,
+};
 use self::options::Options;
 use self::pieces::Pieces;
 use self::rng::Rng;
@@ -55,8 +60,10 @@ nightgen: night files from fixed seeds
 
   nightgen nights  [--seed S] [--count N] OUTPUT   nights with mixed events
   nightgen damaged [--seed S] [--count N] OUTPUT   damaged files, and some whole ones
-  nightgen bench   [--seed S] [--records R] --dir D | --stream F
-                                                   one night of R mixed records
+  nightgen bench   [--seed S] [--records R] [--edition 3] --dir D | --stream F
+                                                   one night of R mixed records, of edition 4:
+                                                   two module events, then the others; with
+                                                   --edition 3 those others alone
   nightgen check   [--seed S] [--count N]          soundness and demand 3 on N nights;
                                                    these and damaged files cut anywhere
 
@@ -143,7 +150,8 @@ fn damaged(options: &Options) -> Result<(), String> {
             "flat and malformed" | "back to front and malformed"
             | "back to front, flat and malformed"
             | "edition, offset and length that do not belong together"
-            | "edition that there is not"
+            | "edition that there is not" | "line neither on nor off"
+            | "module event or line in an older edition"
             | "off mask in an older edition" | "unused byte" => 0,
             "flat image" | "back to front and flat" => 1,
             "back to front" => 2,
@@ -172,11 +180,18 @@ fn damaged(options: &Options) -> Result<(), String> {
     Ok(())
 }
 
+/// In edition 3 the same records but for the module events, which are first.
 fn bench(options: &Options) -> Result<(), String> {
-    let mut uncounted = Coverage::default();
-    let made = make_night(&mut Rng(options.seed), FIRST, options.records, false, &mut uncounted);
+    let (edition, left_out) = match options.edition {
+        4 => (FOURTH, 0),
+        3 => (THIRD, 2),
+        other => return Err(format!("edition {} is not measured", other)),
+    };
+    let (mut rng, length) = (Rng(options.seed), options.records + left_out);
+    let mut made = make_night(&mut rng, FOURTH, length, false, &mut Coverage::default());
+    made.events.drain(..left_out);
     let mut output = options.output()?;
-    output.put(0, &night_file(FIRST, &made)).map_err(failed)?;
+    output.put(0, &night_file(edition, &made)).map_err(failed)?;
     output.finish().map_err(failed)
 }
 
@@ -205,8 +220,8 @@ fn check(options: &Options) -> Result<(), String> {
         pieces.file(&file, &mut cuts).map_err(|what| counterexample(options, index, &file, what))?;
     }
     println!(
-        "{} nights, {} events, {} commands run: every state reached from start is sound",
-        options.count, claims.events, claims.commands
+        "{} nights, {} events, {} commands run, {} resets: every state reached from start is sound, no path is up below ModuleReady",
+        options.count, claims.events, claims.commands, claims.resets
     );
     println!(
         "the late run agrees after each of them but for active settings of lanes in progress ({} times these differed)",

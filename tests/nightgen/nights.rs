@@ -1,6 +1,6 @@
 //! Whole nights, and the files they make.
 
-use crate::aims::{Conditions, Maker};
+use crate::aims::{Kinds, Maker};
 use crate::coverage::Coverage;
 use crate::image::make_image;
 use crate::rng::Rng;
@@ -12,6 +12,7 @@ use second::registers::IMAGE_LEN;
 pub const FIRST: Edition = EDITIONS[0];
 pub const SECOND: Edition = EDITIONS[1];
 pub const THIRD: Edition = EDITIONS[2];
+pub const FOURTH: Edition = EDITIONS[3];
 
 /// A finished night: its image and its events.
 pub struct Made {
@@ -22,7 +23,7 @@ pub struct Made {
 /// One night in so many has its limits back to front.
 pub const REFUSED_EVERY: usize = 40;
 
-/// A night of an edition, with the condition event that it has.
+/// A night of an edition, with the events that it has.
 pub fn make_night(
     rng: &mut Rng,
     edition: Edition,
@@ -31,13 +32,13 @@ pub fn make_night(
     coverage: &mut Coverage,
 ) -> Made {
     let image = make_image(rng, wild);
-    let conditions = if edition.lasting { Conditions::Lasting } else { Conditions::OneTime };
-    let mut maker = Maker::new(rng.clone(), &image, wild, conditions);
+    let mut maker = Maker::new(rng.clone(), &image, wild, Kinds::of(edition));
     rng.next();
     coverage.begin(edition);
+    let mut opening = maker.opening().into_iter();
     let mut events = Vec::with_capacity(length);
     while events.len() < length {
-        let event = maker.next();
+        let event = opening.next().unwrap_or_else(|| maker.next());
         let before = maker.state.clone();
         let (outcome, _) = maker.state.step(&event);
         coverage.look(&before, &event, &outcome, &maker.state, maker.slip);
@@ -68,12 +69,13 @@ pub fn night_length(rng: &mut Rng, index: usize) -> usize {
     }
 }
 
-/// The edition of a night: half of them are of the newest, at any length.
+/// The edition of a night: thirteen in sixteen are of the newest, at any length.
 pub fn edition_of(index: usize) -> Edition {
-    match (index + index / 250) % 4 {
-        1 => FIRST,
-        3 => SECOND,
-        _ => THIRD,
+    match (index + index / 125) % 16 {
+        0 => SECOND,
+        12 => THIRD,
+        14 => FIRST,
+        _ => FOURTH,
     }
 }
 
@@ -110,6 +112,8 @@ fn record_of(event: &Event) -> [u8; 12] {
             let [high, low] = value.to_be_bytes();
             record[..4].copy_from_slice(&[6, lane, high, low]);
         }
+        Event::Module => record[0] = 7,
+        Event::Line { on } => record[..2].copy_from_slice(&[8, on as u8]),
     }
     record
 }

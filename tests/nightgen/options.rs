@@ -8,6 +8,7 @@ pub struct Options {
     pub seed: u64,
     pub count: usize,
     pub records: usize,
+    pub edition: u64,
     dir: Option<String>,
     stream: Option<String>,
 }
@@ -15,7 +16,7 @@ pub struct Options {
 impl Options {
     pub fn parse(arguments: &[String]) -> Result<Options, String> {
         let mut options =
-            Options { seed: 1, count: 1500, records: 5000, dir: None, stream: None };
+            Options { seed: 1, count: 1500, records: 5000, edition: 4, dir: None, stream: None };
         let mut rest = arguments.iter();
         while let Some(name) = rest.next() {
             let value = rest.next().ok_or_else(|| format!("{} needs a value", name))?;
@@ -24,6 +25,7 @@ impl Options {
                 "--seed" => options.seed = number()?,
                 "--count" => options.count = number()? as usize,
                 "--records" => options.records = number()? as usize,
+                "--edition" => options.edition = number()?,
                 "--dir" => options.dir = Some(value.clone()),
                 "--stream" => options.stream = Some(value.clone()),
                 _ => return Err(format!("{} is not an option", name)),

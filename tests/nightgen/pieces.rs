@@ -51,7 +51,7 @@ fn streamed_plainly(file: &[u8]) -> Option<Vec<u8>> {
     let malformed = b"bad 9\n".to_vec();
     let records_at = match file.get(2) {
         Some(1) => 784,
-        Some(2 | 3) => 912,
+        Some(2..=4) => 912,
         _ => return Some(malformed),
     };
     if file.len() < records_at {

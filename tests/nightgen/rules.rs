@@ -21,7 +21,8 @@ pub fn descriptor_at(app_sel: u8) -> usize {
 pub fn interrupts(image: &[u8; IMAGE_LEN]) -> bool {
     let of_a_lane = (0..20).any(|k| image[P11 + 134 + k] & !image[P10 + 213 + k] != 0);
     let of_a_command = image[8] & 0x40 != 0 && image[31] & 0x40 == 0;
-    of_a_lane || of_a_command
+    let of_the_module = image[8] & 0x01 != 0 && image[31] & 0x01 == 0;
+    of_a_lane || of_a_command || of_the_module
 }
 
 /// The groups a trigger's selected lanes fall into.

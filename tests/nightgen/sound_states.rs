@@ -9,9 +9,9 @@ use second::lanes::*;
 use second::module::as_copied;
 use second::registers::*;
 
-/// Builds a state meant to be sound, with paths in any state, bits pending,
-/// groups in progress at any point, some of the flags on; the caller asks
-/// whether it is.
+/// Builds a state meant to be sound, with the module and its paths in any state,
+/// bits pending, groups in progress at any point, some of the flags on; the
+/// caller asks whether it is.
 pub fn make_sound_state(rng: &mut Rng) -> State {
     let mut image = make_image(rng, true);
     // Bytes that no start would leave: soundness says nothing of them.
@@ -21,6 +21,9 @@ pub fn make_sound_state(rng: &mut Rng) -> State {
     for place in [8, 9, 31, 37] {
         image[place] = rng.byte();
     }
+    image[MODULE_STATE] = if rng.percent(50) { rng.byte() } else { 0x07 };
+    image[MODULE_CONTROLS] = if rng.percent(50) { rng.byte() } else { 0x40 };
+    let line = rng.percent(30);
     // Nor does it say anything of the limits' order: only start asks.
     if rng.percent(30) {
         let rising = limits(&image);
@@ -28,7 +31,7 @@ pub fn make_sound_state(rng: &mut Rng) -> State {
     }
     image[BANK_SELECT] = rng.pick(&[0, 0, 0, 3]);
     image[PAGE_SELECT] = rng.pick(&[0x10, 0x11, 0x10, 0x11, 0x9F, 0x02, 0x42]);
-    let mut state = State { image, lanes: [LaneRecord::IDLE; LANES] };
+    let mut state = State { image, working: Working { line, ..Working::AT_START } };
     let put = |image: &mut [u8; IMAGE_LEN], place: usize, lane: u8, value: u8| {
         let byte = &mut image[place + lane as usize / 2];
         let shift = 4 * (lane % 2);
@@ -45,7 +48,7 @@ pub fn make_sound_state(rng: &mut Rng) -> State {
     for flag_byte in OF_CONDITIONS.into_iter().chain(OF_RECEIVED_POWER) {
         let lanes = state.image[P11 + flag_byte as usize] & rng.byte();
         for lane in LaneSet(lanes) {
-            state.lanes[lane as usize].on |= 1 << index(flag_byte);
+            state.working.lanes[lane as usize].on |= 1 << index(flag_byte);
         }
     }
 
@@ -110,7 +113,7 @@ pub fn make_sound_state(rng: &mut Rng) -> State {
                 post_cursor: rng.byte() & 15,
                 amplitude: rng.byte() & 15,
             };
-            state.lanes[lane as usize].stage =
+            state.working.lanes[lane as usize].stage =
                 Stage::InProgress(Apply { group, trigger, held, verdict });
             put(&mut state.image, CONFIG_STATUS, lane, 12);
             if matches!(verdict, Verdict::Pass { next } if lane < next) {

@@ -4,21 +4,21 @@ use second::lanes::*;
 use second::module::*;
 use second::registers::*;
 
-#[derive(Clone)]
+#[derive(Clone, PartialEq)]
 pub struct State {
     pub image: [u8; IMAGE_LEN],
-    pub lanes: [LaneRecord; LANES],
+    pub working: Working,
 }
 
 impl State {
     pub fn start(image: &[u8; IMAGE_LEN]) -> State {
-        let mut state = State { image: *image, lanes: [LaneRecord::IDLE; LANES] };
-        assert_eq!(start(&mut state.image, &mut state.lanes), 0, "start refused an image");
+        let mut state = State { image: *image, working: Working::AT_START };
+        assert_eq!(start(&mut state.image, &mut state.working), 0, "start refused an image");
         state
     }
 
     fn module(&mut self) -> Module<'_> {
-        Module { image: &mut self.image, lanes: &mut self.lanes }
+        Module { image: &mut self.image, working: &mut self.working }
     }
 
     pub fn step(&mut self, event: &Event) -> (Outcome, Vec<u8>) {
@@ -34,7 +34,7 @@ impl State {
     }
 
     pub fn apply(&self, lane: u8) -> Option<Apply> {
-        match self.lanes[lane as usize].stage {
+        match self.working.lanes[lane as usize].stage {
             Stage::Idle => None,
             Stage::InProgress(apply) => Some(apply),
         }
@@ -50,7 +50,7 @@ impl State {
 
     /// The lanes on which something is on.
     pub fn with_something_on(&self) -> u8 {
-        self.lanes_where(|lane| self.lanes[lane as usize].on != 0)
+        self.lanes_where(|lane| self.working.lanes[lane as usize].on != 0)
     }
 
     pub fn nibble(&self, place: usize, lane: u8) -> u8 {
@@ -77,6 +77,10 @@ impl State {
     pub fn path(&self, lane: u8) -> u8 {
         let id = self.active(lane) >> 1 & 7;
         self.used() & self.lanes_where(|other| self.active(other) >> 1 & 7 == id)
+    }
+
+    pub fn module_state(&self) -> u8 {
+        self.image[3] >> 1 & 7
     }
 
     /// The page that upper addresses go to.

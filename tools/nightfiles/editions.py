@@ -6,7 +6,7 @@ An image of an edition that is shorter than the module's has zeros on the pages 
 
 from typing import NamedTuple
 
-from .records import CONDITION, HARDWARE, LASTING_CONDITION, READ, SAMPLE, WORK, WRITE
+from .records import CONDITION, HARDWARE, LASTING_CONDITION, LINE, MODULE, READ, SAMPLE, WORK, WRITE
 
 IMAGE_AT = 16
 
@@ -24,9 +24,11 @@ def edition(number, image_length, kinds):
 
 ONE_TIME_KINDS = {1: WRITE, 2: READ, 3: WORK, 4: HARDWARE, 5: CONDITION, 6: SAMPLE}
 LASTING_KINDS = {**ONE_TIME_KINDS, 5: LASTING_CONDITION}
+POWER_KINDS = {**LASTING_KINDS, 7: MODULE, 8: LINE}
 
 EDITIONS = {
     1: edition(1, 768, ONE_TIME_KINDS),
     2: edition(2, 896, ONE_TIME_KINDS),
     3: edition(3, 896, LASTING_KINDS),
+    4: edition(4, 896, POWER_KINDS),
 }

@@ -61,9 +61,12 @@ def read_night(file, name, most=MOST_RECORDS):
     records = [file[at : at + RECORD_LENGTH] for at in range(start, length, RECORD_LENGTH)]
     for index, record in enumerate(records):
         check(record[0] in edition.kinds, "record %d has kind %d", index, record[0])
-        for place in range(edition.kinds[record[0]].used(record), RECORD_LENGTH):
+        kind = edition.kinds[record[0]]
+        for place in range(kind.used(record), RECORD_LENGTH):
             unused = "record %d has %02xh in its byte %d, which its kind does not use"
             check(record[place] == 0, unused, index, record[place], place)
+        misfit = kind.misfit(record)
+        check(misfit is None, "record %d has %s", index, misfit)
     return Night(edition, file[IMAGE_AT:start], records)
 
 

@@ -7,6 +7,8 @@ HALF = 128
 LOWER = None
 BANK_SELECT = 126
 PAGE_SELECT = 127
+MODULE_CONTROLS = 26
+SOFTWARE_RESET = 0x08
 # The pages as they follow lower memory in an image; of each, whether it can be reached only while the bank is 0.
 PAGES = {0x00: False, 0x01: False, 0x02: False, 0x10: True, 0x11: True, 0x9F: True}
 NAMES = {page: "%02Xh" % page for page in PAGES}
@@ -28,7 +30,7 @@ def halves(image_length):
 
 
 class Selection:
-    """Follows bytes 126 and 127 through a night's writes. At start both are 0."""
+    """Follows bytes 126 and 127 through a night's writes. At start both are 0, and so they are after a reset."""
 
     def __init__(self):
         self.bank = 0
@@ -39,7 +41,10 @@ class Selection:
         if not 1 <= count <= 8 or address + count > HALF:
             return
         for place, byte in enumerate(data[:count], address):
-            if place == BANK_SELECT:
+            if place == MODULE_CONTROLS and byte & SOFTWARE_RESET:
+                self.bank = 0
+                self.page = 0
+            elif place == BANK_SELECT:
                 self.bank = byte
             elif place == PAGE_SELECT:
                 if byte in PAGES and not (PAGES[byte] and self.bank):

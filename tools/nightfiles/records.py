@@ -50,6 +50,10 @@ class Field:
         """How many bytes it takes of those that are left of a record."""
         return self.size
 
+    def misfit(self, data):
+        """What is wrong with its bytes; None where they can be shown."""
+        return None
+
 
 class Number(Field):
     """A decimal number."""
@@ -81,6 +85,23 @@ class Mask(Field):
 
     def pack(self, text, selection):
         return bytes([byte_of(text.split()[-1])])
+
+
+class Switch(Field):
+    """A byte that is 1 for on or 0 for off, and nothing else."""
+
+    words = ("off", "on")
+    pattern = r" +(?:on|off)"
+    form = " on|off"
+
+    def misfit(self, data):
+        return None if data[0] < len(self.words) else "%02xh where 01h is on and 00h is off" % data[0]
+
+    def show(self, data, selection):
+        return " " + self.words[data[0]]
+
+    def pack(self, text, selection):
+        return bytes([self.words.index(text)])
 
 
 class Address(Field):
@@ -167,12 +188,16 @@ class Kind:
         """How many bytes of a record this kind uses."""
         return 1 + sum(len(data) for _, data in self.parts(record))
 
+    def misfit(self, record):
+        """What is wrong with a field of a record; None where nothing is."""
+        return next(filter(None, (field.misfit(data) for field, data in self.parts(record))), None)
+
     def show(self, record, selection):
         return self.word + "".join(field.show(data, selection) for field, data in self.parts(record))
 
     def pack(self, text, selection):
         """The bytes of the fields, from the text that follows the word."""
-        match = self.pattern.fullmatch(" " + text)
+        match = self.pattern.fullmatch(" " + text if text else "")
         if not match:
             raise Problem("'%s' does not read as: %s" % ((self.word + " " + text).strip(), self.form))
         fields = zip(self.fields, match.groups())
@@ -188,3 +213,5 @@ HARDWARE = Kind("hardware", LANE)
 CONDITION = Kind("condition", FlagByte(), Mask())
 LASTING_CONDITION = Kind("condition", FlagByte(), Mask("on"), Mask("off"))
 SAMPLE = Kind("sample", LANE, Number("value", 2))
+MODULE = Kind("module")
+LINE = Kind("line", Switch())

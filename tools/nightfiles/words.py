@@ -138,6 +138,17 @@ MODULE_FLAGS = {
     1: "ModuleFirmwareError%s",
     0: "ModuleStateChanged%s",
 }
+# Lower 26, by bit.
+MODULE_CONTROLS = {
+    7: "BankBroadcastEnable",
+    6: "LowPwrAllowRequestHW",
+    5: "SquelchMethodSelect",
+    4: "LowPwrRequestSW",
+    3: "SoftwareReset",
+    2: "custom bit 2",
+    1: "custom bit 1",
+    0: "custom bit 0",
+}
 COMMANDS = {
     0x0000: "Query Status",
     0x0040: "Module Features",
@@ -188,14 +199,19 @@ def memory_model(data):
     return [model, immediate]
 
 
-def module_flags(word):
-    """The bits of lower 8 or 31 that are 1."""
+def named_bits(names):
+    """The bits of a byte that are 1."""
 
     def words(data):
         bits = [bit for bit in range(7, -1, -1) if data[0] >> bit & 1]
-        return [MODULE_FLAGS[bit] % word if bit in MODULE_FLAGS else "reserved bit %d" % bit for bit in bits]
+        return [names.get(bit, "reserved bit %d" % bit) for bit in bits]
 
     return words
+
+
+def module_flags(word):
+    """Lower 8 or 31."""
+    return named_bits({bit: name % word for bit, name in MODULE_FLAGS.items()})
 
 
 def command_status(data):
@@ -341,6 +357,7 @@ REGISTERS = {
         Register(2, 2, "MemoryModel and SteppedConfigOnly", memory_model),
         Register(3, 3, "ModuleState", module_state),
         Register(8, 8, "module flags", module_flags("Flag")),
+        Register(26, 26, "module controls", named_bits(MODULE_CONTROLS)),
         Register(31, 31, "module masks", module_flags("Mask")),
         Register(37, 37, "CdbStatus1", command_status),
         Register(39, 40, "ModuleActiveFirmware", firmware_version),

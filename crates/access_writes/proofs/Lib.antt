@@ -1,3 +1,3 @@
--- What each byte of a write leaves, and a write that touches no trigger.
+-- What each byte of a write leaves, and a plain write.
 pub mod Writing
 pub mod Putting

@@ -1,6 +1,6 @@
--- A write that touches no trigger leaves the lanes' records, and is put from its first place on. Assumes nothing.
-use mathlib.Core.Path.{_≡_, refl}
-use mathlib.Core.Bool.{false}
+-- A plain write leaves the lanes' records, and is put from its first place on. Assumes nothing.
+use mathlib.Core.Path.{_≡_, refl, ap, _∙_}
+use mathlib.Core.Bool.{true, not, _&&_, _||_}
 use mathlib.Core.List.{List, [], _∷_}
 use mathlib.Core.Logic.{_⊎_, inl, inr}
 use Prim.Native.Nat.{ℕ, suc, _+_, _-_, _≤_, _<_}
@@ -10,24 +10,34 @@ use native.Mathlib.Omega.{arith}
 use lib.Dec.{eqb, leb, ltb}
 use lib.ListN.{length, getD, drop}
 use lib.Seq.{getD-set-other, drop-cons, drop-length}
-use borrow.Author.Tests.{lt-ltb, le-ltb, ltb-false, leb-false, ne-eqb}
-use Rattle.bits.specs.Choice.{pick, both}
-use Rattle.bits.proofs.Tests.{split}
-use Rattle.model.specs.Map.{Image, writable, applyDPInit, applyImmediate}
+use borrow.Author.Tests.{lt-ltb, le-ltb, ltb-false, leb-false, eqb-true, ne-eqb, not-true}
+use Rattle.bits.specs.Choice.{pick, both, either}
+use Rattle.bits.proofs.Tests.{split, either-l, either-r, and-both, or-either}
+use Rattle.model.specs.Map.{Image, moduleControls, pageSelect, applyDPInit, applyImmediate, writable}
 use Rattle.model.specs.Pages.{selectedStart, indexOf}
-use Rattle.model.specs.Access.{storedState, byteWrittenState, bytesWrittenState, halfEnd}
+use Rattle.model.specs.Access.{withoutReset, storedState, byteWrittenState, bytesWrittenState, halfEnd}
 use Rattle.model.specs.State.{stateWith}
 use Rattle.model.specs.declared.lane.Working.{Working}
 use Rattle.model.proofs.Starts.{start-past}
-use Rattle.access_writes.specs.Puts.{meetsTriggers, bytePut, bytesPut}
+use Rattle.access_writes.specs.Puts.{isPlain, bytePut, bytesPut}
+
+-- a byte of another index than 26 is stored whole
+whole-byte : (i v : ℕ) → (i ≡ moduleControls → ⊥) → withoutReset i v ≡ v
+unfolding withoutReset pick
+whole-byte i v n = rw (ne-eqb i moduleControls n, pick)
 
 -- a place that is no trigger's
 pub stored-other : (i v : ℕ) (x : Image) (w : Working) → (i ≡ applyDPInit → ⊥) → (i ≡ applyImmediate → ⊥)
-    → storedState i v (stateWith x w) ≡ stateWith (bytePut i v x) w
+    → storedState i v (stateWith x w) ≡ stateWith (bytePut i (withoutReset i v) x) w
 unfolding storedState bytePut pick
-stored-other i v x w p q = split (eqb i 127)
-    (λ e. rw (e, pick))
+stored-other i v x w p q = split (eqb i pageSelect)
+    (λ e. let h : i ≡ pageSelect = eqb-true _ _ e in rw (e, pick, whole-byte i v (λ t. omega arith)))
     (λ e. split (writable i) (λ f. rw (e, ne-eqb i applyDPInit p, ne-eqb i applyImmediate q, f, pick)) (λ f. rw (e, ne-eqb i applyDPInit p, ne-eqb i applyImmediate q, f, pick)))
+
+-- .. and lies past lower 26
+stored-plain : (i v : ℕ) (x : Image) (w : Working) → moduleControls < i → (i ≡ applyDPInit → ⊥) → (i ≡ applyImmediate → ⊥)
+    → storedState i v (stateWith x w) ≡ stateWith (bytePut i v x) w
+stored-plain i v x w h p q = stored-other i v x w p q ∙ rw (whole-byte i v (λ e. omega arith))
 
 -- a byte put past lower memory leaves the selected page
 page-kept : (i v : ℕ) (x : Image) → 128 ≤ i → selectedStart (bytePut i v x) ≡ selectedStart x
@@ -37,23 +47,36 @@ page-kept i v x h = split (writable i)
     (λ f. rw (ne-eqb i 127 (λ e. omega arith), f, pick))
 
 -- in lower memory there is no trigger, and an address is its own place
-lower-put : (a : ℕ) (vs : List ℕ) (x : Image) (w : Working) → a + length vs ≤ 128 → bytesWrittenState a vs (stateWith x w) ≡ stateWith (bytesPut a vs x) w
+lower-put : (a : ℕ) (vs : List ℕ) (x : Image) (w : Working) → moduleControls < a → a + length vs ≤ 128
+    → bytesWrittenState a vs (stateWith x w) ≡ stateWith (bytesPut a vs x) w
 unfolding bytesWrittenState byteWrittenState bytesPut indexOf pick
-lower-put a [] x w h = refl
-lower-put a (v ∷ vs) x w h =
-    rw (lt-ltb a 128 (omega arith), pick, stored-other a v x w (λ e. omega arith) (λ e. omega arith))
-    (lower-put (suc a) vs (bytePut a v x) w (omega arith))
+lower-put a [] x w l h = refl
+lower-put a (v ∷ vs) x w l h =
+    rw (lt-ltb a 128 (omega arith), pick, stored-plain a v x w l (λ e. omega arith) (λ e. omega arith))
+    (lower-put (suc a) vs (bytePut a v x) w (omega arith) (omega arith))
 
 -- ---- n places from i on, none of them a trigger's
+
+-- the code's tests
+pub plain-by : (i j n : ℕ) → i ≡ j → not ((leb i applyImmediate && ltb applyDPInit (i + n)) || leb i moduleControls) ≡ isPlain j n
+unfolding isPlain
+plain-by i j n e = ap not (or-either _ _ ∙ ap (λ t. either t (leb i moduleControls)) (and-both _ _)) ∙ ap (λ k. isPlain k n) e
 
 abbrev Clear : ℕ → ℕ → Type 0
 Clear i n = (applyImmediate < i) ⊎ (i + n ≤ applyDPInit)
 
-clear-by : (i n : ℕ) → meetsTriggers i n ≡ false → Clear i n
-unfolding meetsTriggers both
-clear-by i n e = split (leb i applyImmediate)
-    (λ t. inr (ltb-false applyDPInit (i + n) (rw (t, both) at e)))
+-- a plain write's are such, and lie past lower 26
+clear-by : (i n : ℕ) → isPlain i n ≡ true → Clear i n
+unfolding isPlain both
+clear-by i n e =
+    let t = either-l _ _ (not-true _ e) in
+    split (leb i applyImmediate)
+    (λ p. inr (ltb-false applyDPInit (i + n) (rw (p, both) at t)))
     (λ f. inl (leb-false i applyImmediate f))
+
+pub plain-past : (i n : ℕ) → isPlain i n ≡ true → moduleControls < i
+unfolding isPlain
+plain-past i n e = leb-false i moduleControls (either-r _ _ (not-true _ e))
 
 clear-here : (i n : ℕ) → Clear i (suc n) → (i ≡ applyDPInit → ⊥) × (i ≡ applyImmediate → ⊥)
 clear-here i n (inl l) = (λ e. omega arith, λ e. omega arith)
@@ -70,16 +93,16 @@ unfolding bytesWrittenState byteWrittenState bytesPut indexOf pick
 upper-put a i [] x w h e c = refl
 upper-put a i (v ∷ vs) x w h e c =
     let n = clear-here i (length vs) c in
-    let k = page-kept i v x (omega (arith, start-past x)) in
-    rw (le-ltb a 128 h, pick, ← e, stored-other i v x w (n .0) (n .1))
-    (upper-put (suc a) (suc i) vs (bytePut i v x) w (omega arith) (rw k (omega arith)) (clear-next i (length vs) c))
+    let l : 128 ≤ i = omega (arith, start-past x) in
+    rw (le-ltb a 128 h, pick, ← e, stored-plain i v x w (omega arith) (n .0) (n .1))
+    (upper-put (suc a) (suc i) vs (bytePut i v x) w (omega arith) (rw (page-kept i v x l) (omega arith)) (clear-next i (length vs) c))
 
--- a write that touches no trigger
-pub untriggered : (a : ℕ) (vs : List ℕ) (x : Image) (w : Working) → a + length vs ≤ halfEnd a → meetsTriggers (indexOf x a) (length vs) ≡ false
+-- a plain write
+pub plain-put : (a : ℕ) (vs : List ℕ) (x : Image) (w : Working) → a + length vs ≤ halfEnd a → isPlain (indexOf x a) (length vs) ≡ true
     → bytesWrittenState a vs (stateWith x w) ≡ stateWith (bytesPut (indexOf x a) vs x) w
 unfolding indexOf halfEnd pick
-untriggered a vs x w h m = split (ltb a 128)
-    (λ t. let l : a + length vs ≤ 128 = rw (t, pick) at h in rw (t, pick) (lower-put a vs x w l))
+plain-put a vs x w h m = split (ltb a 128)
+    (λ t. let l : a + length vs ≤ 128 = rw (t, pick) at h in rw (t, pick) (lower-put a vs x w (plain-past a _ (rw (t, pick) at m)) l))
     (λ f. rw (f, pick) (upper-put a (selectedStart x + (a - 128)) vs x w (ltb-false a 128 f) refl (clear-by _ _ (rw (f, pick) at m))))
 
 -- ---- a turn of the loop: the bytes from k on are still to be put, from place i on

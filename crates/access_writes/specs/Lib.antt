@@ -1,2 +1,2 @@
--- A write that touches no trigger, read by name.
+-- A plain write, read by name.
 pub mod Puts

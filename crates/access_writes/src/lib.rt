@@ -4,10 +4,11 @@ ghost use Prim.Native.Nat.{_+_, _^_, _≤_, _<_};
 ghost use lib.ListN.{length, set};
 ghost use Rattle.bits.specs.Choice.{pick};
 ghost use Rattle.model.specs.Map.{writable, imageLength};
+ghost use Rattle.model.specs.Pages.{indexOf};
 ghost use Rattle.model.specs.Access.{storedState, byteWrittenState, bytesWrittenState, halfEnd};
 ghost use Rattle.contracts.specs.Contracts.{IsState};
 ghost use Rattle.model.specs.State.{stateWith};
-ghost use Rattle.access_writes.specs.Puts.{meetsTriggers, bytePut, bytesPut};
+ghost use Rattle.access_writes.specs.Puts.{isPlain, bytePut, bytesPut};
 use model::lane::Trigger;
 use model::lane::Working;
 
@@ -30,7 +31,7 @@ fn store(image: &mut [u8], start: usize, offset: usize, v: u8)
     }
 }
 
-// A byte put at one of the 128 bytes from a start on, which is no trigger's.
+// A byte put at one of the 128 bytes from a start on, which is no trigger's and has no SoftwareReset.
 fn put_byte(image: &mut [u8], start: usize, offset: usize, v: u8)
     requires { ⌜ (length (now image) ≡ imageLength) × (start + 128 ≤ imageLength) × (offset < 128) ⌝ }
     ensures { λ _. ⌜ now (image .exit) ≡ bytePut (start + offset) v (now (image .entry)) ⌝ }
@@ -54,7 +55,7 @@ fn write_at(image: &mut [u8], w: Working, start: usize, offset: usize, v: u8) ->
     if i == map::APPLY_IMMEDIATE {
         return apply_triggers::trigger(image, w, Trigger::Immediate, map::STAGED_SET_0, v);
     }
-    put_byte(image, start, offset, v);
+    put_byte(image, start, offset, map::without_reset(i, v));
     w
 }
 
@@ -67,8 +68,8 @@ fn write_byte(image: &mut [u8], w: Working, address: usize, v: u8) -> Working
     write_at(image, w, start, address % map::PAGE_LENGTH, v)
 }
 
-// A write, whatever its bytes touch.
-fn write_each(image: &mut [u8], w: Working, address: u8, bytes: &[u8]) -> Working
+// A write, whatever its bytes touch: the lanes' records go along.
+pub fn write_each(image: &mut [u8], w: Working, address: u8, bytes: &[u8]) -> Working
     requires { ⌜ (length (now image) ≡ imageLength) × (address + length (now bytes) ≤ halfEnd address) ⌝ }
     ensures { λ r. ⌜ IsState (bytesWrittenState address (now (bytes .entry)) (stateWith (now (image .entry)) w)) (now (image .exit)) r ⌝ }
 {
@@ -79,15 +80,18 @@ fn write_each(image: &mut [u8], w: Working, address: u8, bytes: &[u8]) -> Workin
     next
 }
 
-// Whether one of n bytes from i on is a trigger's.
-fn meets_triggers(i: usize, n: usize) -> bool
-    requires { ⌜ i + n < 2 ^ 64 ⌝ }
-    ensures { λ r. ⌜ r ≡ meetsTriggers i n ⌝ }
+// Whether a write of n bytes from an address on meets neither a trigger nor lower 26: its bytes are then put and no more.
+pub fn is_plain(image: &[u8], address: u8, n: usize) -> bool
+    requires { ⌜ (length (now image) ≡ imageLength) × (n < 2 ^ 32) ⌝ }
+    ensures { λ r. ⌜ r ≡ isPlain (indexOf (now (image .entry)) address) n ⌝ }
 {
-    (i <= map::APPLY_IMMEDIATE) & (map::APPLY_DP_INIT < i + n)
+    let first = address as usize;
+    let i = pages::half_start(image, first) + first % map::PAGE_LENGTH;
+    let triggers = (i <= map::APPLY_IMMEDIATE) & (map::APPLY_DP_INIT < i + n);
+    !(triggers | (i <= map::MODULE_CONTROLS))
 }
 
-// The bytes of a write that touches no trigger: its half of memory starts where it did to the end.
+// The bytes of a plain write: its half of memory starts where it did to the end.
 fn put_bytes(image: &mut [u8], start: usize, offset: usize, bytes: &[u8])
     requires { ⌜ (length (now image) ≡ imageLength) × (start + 128 ≤ imageLength) × (offset + length (now bytes) ≤ 128) ⌝ }
     ensures { λ _. ⌜ now (image .exit) ≡ bytesPut (start + offset) (now (bytes .entry)) (now (image .entry)) ⌝ }
@@ -97,17 +101,12 @@ fn put_bytes(image: &mut [u8], start: usize, offset: usize, bytes: &[u8])
     }
 }
 
-// A write: its bytes, from an address on. The lanes' records go along only where a trigger is touched.
-pub fn write(image: &mut [u8], w: Working, address: u8, bytes: &[u8]) -> Working
+// A plain write: its bytes, from an address on. The lanes' records have no part in it.
+pub fn write_plain(image: &mut [u8], address: u8, bytes: &[u8])
     requires { ⌜ (length (now image) ≡ imageLength) × (address + length (now bytes) ≤ halfEnd address) ⌝ }
-    ensures { λ r. ⌜ IsState (bytesWrittenState address (now (bytes .entry)) (stateWith (now (image .entry)) w)) (now (image .exit)) r ⌝ }
+    ensures { λ _. ⌜ now (image .exit) ≡ bytesPut (indexOf (now (image .entry)) address) (now (bytes .entry)) (now (image .entry)) ⌝ }
 {
     let first = address as usize;
     let start = pages::half_start(image, first);
-    let offset = first % map::PAGE_LENGTH;
-    if meets_triggers(start + offset, bytes.len()) {
-        return write_each(image, w, address, bytes);
-    }
-    put_bytes(image, start, offset, bytes);
-    w
+    put_bytes(image, start, first % map::PAGE_LENGTH, bytes);
 }

@@ -21,7 +21,7 @@ use Rattle.view_settings.proofs.View.{settings-of}
 use Rattle.records.proofs.Stages.{stages-loop}
 use Rattle.model.specs.Map.{Image, statusAt}
 use Rattle.model.specs.Statuses.{inProgress}
-use Rattle.model.specs.Records.{idleRecord, stageAt, isInProgress, anyInProgress, withStage}
+use Rattle.model.specs.Records.{idleRecord, stageAt, isInProgress, anyInProgress, withLanes, withStage}
 use Rattle.model.specs.View.{View, settingsAt, viewOf}
 use Rattle.model.specs.Groups.{groupOf}
 use Rattle.model.specs.Verdicts.{verdictOf}
@@ -71,13 +71,14 @@ judged-none t base x = ap Pass (sym first-none) ∙ verdict-none t base x 0 (ome
 
 pub mark-begin : (t : Trigger) (base : ℕ) (x : Image) (w : Working) (selected : ℕ)
     → Marks t (viewOf base x) w selected 0 (record { working = w; marked = 0 })
-mark-begin t base x w selected = record { lanes = each-begin _ _ (w .lanes); marked = mask-begin _ }
+mark-begin t base x w selected = record { lanes = each-begin _ _ (w .lanes); line = refl; marked = mask-begin _ }
 
 module _ (t : Trigger) (base : ℕ) (x : Image) (w : Working) (selected n : ℕ) (m : Marking) where
   pub mark-pass : isMarked (viewOf base x) w selected n ≡ false → Marks t (viewOf base x) w selected n m → Marks t (viewOf base x) w selected (n + 1) m
   mark-pass e h =
       record {
         lanes = each-pass _ _ n (w .lanes) (m .working .lanes) (h .lanes) e;
+        line = h .line;
         marked = h .marked ∙ mask-pass _ n e;
       }
 
@@ -91,10 +92,11 @@ module _ (t : Trigger) (base : ℕ) (x : Image) (w : Working) (selected n : ℕ)
       → Marks t (viewOf base x) w selected n m → g ≡ groupOf (viewOf base x) selected n → d ≡ verdictOf t (viewOf base x) g
       → own ≡ InProgress (record { group = g; held = settingsAt base x n; trigger = t; verdict = d })
       → after ≡ withStage (getD (m .working .lanes) n idleRecord) own → k ≡ withField (m .marked) n 1 (boolByte true)
-      → Marks t (viewOf base x) w selected (n + 1) (record { working = record { lanes = set (m .working .lanes) n after }; marked = k })
+      → Marks t (viewOf base x) w selected (n + 1) (record { working = withLanes (m .working) (set (m .working .lanes) n after); marked = k })
   mark-turn g d own after k b e h p q r a s =
       record {
         lanes = rw (a, stage-by g d own b p q r) (each-turn _ _ n (w .lanes) (m .working .lanes) (h .lanes) e);
+        line = h .line;
         marked = mask-turn _ n (m .marked) k true (h .marked) (sym e) s;
       }
 
@@ -114,5 +116,5 @@ module _ (t : Trigger) (base : ℕ) (x : Image) (w : Working) (selected : ℕ) w
       rw (pick-false _ _ e)
       (record {
         image = p ∙ each-ext _ _ _ _ laneCount x (λ l b. rw (h .marked) (has-mask laneCount _ l b)) (λ l z b c. rw s);
-        working = stages-loop _ (λ l s. markedStage t (viewOf base x) selected l) w (m .working) len (h .lanes);
+        working = stages-loop _ (λ l s. markedStage t (viewOf base x) selected l) w (m .working) len (h .line) (h .lanes);
       })

@@ -1,7 +1,7 @@
 // The event that each call of its own asks for.
 ghost use mathlib.Core.Path.{_≡_};
 ghost use Rattle.model.specs.Step.{event};
-ghost use Rattle.model.specs.declared.event.Call.the-variants.{Write, Read, Work, Hardware, Condition, Sample, Lasting};
+ghost use Rattle.model.specs.declared.event.Call.the-variants.{Write, Read, Work, Hardware, Condition, Sample, Lasting, Module, Line};
 use model::event::Call;
 use model::event::Event;
 
@@ -74,6 +74,26 @@ pub fn sample(lane: u8, power: u16) -> Event
 {
     Event {
         call: Call::Sample { lane, power },
+        bytes: NO_BYTES,
+    }
+}
+
+// The module moves one state on.
+pub fn move_module() -> Event
+    ensures { λ r. ⌜ r .call ≡ Module ⌝ }
+{
+    Event {
+        call: Call::Module,
+        bytes: NO_BYTES,
+    }
+}
+
+// The low-power line is set.
+pub fn set_line(on: bool) -> Event
+    ensures { λ r. ⌜ r .call ≡ Line on ⌝ }
+{
+    Event {
+        call: Call::Line { on },
         bytes: NO_BYTES,
     }
 }

@@ -7,7 +7,7 @@ use Prim.Native.Nat.{ℕ, _+_, _-_, _*_, _/_, _%_, _^_, _≤_, _<_}
 use native.Mathlib.Nat.{zero-div, zero-mod, zero-mul, one-mul}
 use native.Mathlib.Decide.{decLt, ℕ-discrete}
 use native.Mathlib.Omega.{arith}
-use borrow.Author.Tests.{not-true, eqb-false, eq-eqb, ne-eqb, lt-ltb, le-ltb}
+use borrow.Author.Tests.{not-true, eqb-true, eqb-false, eq-eqb, ne-eqb, lt-ltb, le-ltb}
 use mir.Val.{boolByte}
 use lib.Bits.{bitAnd, bitOr, and-lt, or-lt, and-le-l}
 use lib.Dec.{eqb, ltb}
@@ -21,7 +21,7 @@ use Rattle.bits.specs.Place.{get}
 use Rattle.bits.specs.Sets.{has, maskOf}
 use Rattle.bits.proofs.Tests.{split, clash, bool-eq, not-not, no-exception, choose, either-pick, either-none}
 use Rattle.bits.proofs.Number.{digit-zero-or-one, digit-and, digit-or, other, stays}
-use Rattle.bits.proofs.Loops.{any-none, any-find, any-ext, not-any, all-ext}
+use Rattle.bits.proofs.Loops.{any-none, any-find, any-ext, not-any, all-at, all-intro, all-ext}
 use Rattle.bits.proofs.Masks.{set-ext, has-put, has-put-other, has-none, mask-lt, has-mask, mask-ext, mask-of-has}
 
 -- ---- the lanes of a set
@@ -177,3 +177,9 @@ module _ (n g : ℕ) (p : ℕ → Bool) {a : ℕ} where
 
   pub every-of : a ≡ maskOf n p → allBelow n (λ m. implies (has g m) (has a m)) ≡ allBelow n (λ m. implies (has g m) (p m))
   every-of e = all-ext n _ _ (λ m h. ap (implies (has g m)) (in-set n p e m h))
+
+-- a set is of all n lanes exactly where all pass
+pub all-of : (n : ℕ) (p : ℕ → Bool) {a : ℕ} → a ≡ maskOf n p → eqb a (2 ^ n - 1) ≡ allBelow n p
+all-of n p {a} e = bool-eq _ _
+    (λ t. all-intro n p (λ l h. sym (in-set n p e l h) ∙ ap (λ g. has g l) (eqb-true a (2 ^ n - 1) t) ∙ has-below n l ∙ lt-ltb l n h))
+    (λ t. eq-eqb a (2 ^ n - 1) (e ∙ mask-ext n p (λ l. ltb l n) (λ l h. all-at n p t l h ∙ sym (lt-ltb l n h)) ∙ sym (below-is n n (omega arith))))

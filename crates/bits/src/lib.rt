@@ -29,7 +29,7 @@ pub fn take_field(x: u8, shift: u8, width: u8) -> u8
 }
 
 // The byte with those bits replaced by the lowest ones of v.
-fn put_field(x: u8, shift: u8, width: u8, v: u8) -> u8
+pub fn put_field(x: u8, shift: u8, width: u8, v: u8) -> u8
     requires { ⌜ width + shift ≤ 8 ⌝ }
     ensures { λ r. ⌜ r ≡ withField x shift width v ⌝ }
 {

@@ -9,7 +9,7 @@ ghost use Rattle.bits.specs.Sets.{has, maskOf, nextIn, laneCount, within, someI
 // How many lanes there are, and the set of them all.
 pub const LANES: u8 = 8;
 
-const ALL: u8 = 255;
+pub const ALL: u8 = 255;
 
 // Whether a set has a lane.
 pub fn is_in(set: u8, lane: u8) -> bool

@@ -1,11 +1,12 @@
 -- The test of equal states tells equality, and so the claim that nothing changes. Assumes nothing.
 use mathlib.Core.Path.{_≡_, refl, ap, ap₂}
-use mathlib.Core.Bool.{true}
+use mathlib.Core.Bool.{Bool, true, false}
 use mathlib.Core.List.{List, [], _∷_}
 use Prim.Native.Nat.{ℕ, _<_}
 use native.Mathlib.Omega.{arith}
 use lib.ListN.{getD}
 use borrow.Author.Tests.{eqb-true}
+use Rattle.bits.specs.Choice.{both, implies}
 use Rattle.bits.proofs.Tests.{clash, both-l, both-r}
 use Rattle.bits.proofs.Loops.{all-at}
 use Rattle.model.specs.Map.{Image, settingCount}
@@ -26,7 +27,7 @@ use Rattle.model.specs.declared.lane.Verdict.the-variants.{Pass, Reject}
 use Rattle.model.specs.declared.lane.Stage.{Stage}
 use Rattle.model.specs.declared.lane.Stage.the-variants.{Idle, InProgress}
 use Rattle.model.specs.declared.lane.LaneRecord.{LaneRecord}
-use Rattle.cases.specs.Same.{sameBytes, sameStage, sameRecords, sameState}
+use Rattle.cases.specs.Same.{sameBytes, sameStage, sameRecords, sameLine, sameState}
 use Rattle.cases.specs.Case.{changesNothing}
 
 same-bytes : (xs ys : List ℕ) → sameBytes xs ys ≡ true → xs ≡ ys
@@ -95,12 +96,22 @@ same-records (p ∷ ps) (q ∷ qs) e =
       on = eqb-true (p .on) (q .on) (both-r _ _ (both-l _ _ e)) i;
     }) (same-records ps qs (both-r _ _ e))
 
+same-line : (a b : Bool) → sameLine a b ≡ true → a ≡ b
+unfolding sameLine both implies
+same-line true true e = refl
+same-line true false e = absurd (clash e refl)
+same-line false true e = absurd (clash e refl)
+same-line false false e = refl
+
 -- states that pass the test are equal, whole
 pub same-state : (s t : State) → sameState s t ≡ true → s ≡ t
 unfolding sameState
 same-state s t e = λ i. record {
   image = same-bytes (s .image) (t .image) (both-l _ _ e) i;
-  working = record { lanes = same-records (s .working .lanes) (t .working .lanes) (both-r _ _ e) i };
+  working = record {
+    lanes = same-records (s .working .lanes) (t .working .lanes) (both-l _ _ (both-r _ _ e)) i;
+    line = same-line (s .working .line) (t .working .line) (both-r _ _ (both-r _ _ e)) i;
+  };
 }
 
 -- what a case says with `changesNothing`: the whole state after the event is the one before it

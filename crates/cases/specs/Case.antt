@@ -17,7 +17,7 @@ use Rattle.model.specs.Outcome.{listRoom}
 use Rattle.model.specs.Text.{ascii, badLine}
 use Rattle.model.specs.Night.{linesFrom}
 use Rattle.model.specs.declared.answer.Answer.{Answer}
-use Rattle.model.specs.declared.event.Call.the-variants.{Write, Read, Work, Hardware, Condition, Sample, Lasting}
+use Rattle.model.specs.declared.event.Call.the-variants.{Write, Read, Work, Hardware, Condition, Sample, Lasting, Module, Line}
 use Rattle.model.specs.declared.event.Event.{Event}
 use Rattle.cases.specs.Same.{sameBytes, sameState}
 
@@ -38,15 +38,6 @@ shownBy a c = pick (isDone a) (linesFrom 0 (run early listRoom (startedState (c 
 -- the case is as it should be
 unfoldable pub holds : Case → Bool
 holds c = sameBytes (shownBy (firstOf (startRefusals (c .image))) c) (linesOf (c .seen))
-
--- what brings a module from start to where its paths can be brought up
-unfoldable pub readied : List Event
-readied = []
-
--- the case is as it should be in a module that has been brought there
-unfoldable pub holdsReady : Case → Bool
-holdsReady c =
-    sameBytes (linesFrom 0 (run early listRoom (ending early listRoom (startedState (c .image)) readied) (c .events))) (linesOf (c .seen))
 
 -- from an image, after events, one more is done and leaves the whole state as it was
 unfoldable pub changesNothing : Image → List Event → Event → Bool
@@ -108,6 +99,12 @@ lasting flag on off = event (Lasting flag on off) []
 abbrev pub sample : ℕ → ℕ → Event
 sample lane power = event (Sample lane power) []
 
+abbrev pub moduleEvent : Event
+moduleEvent = event Module []
+
+abbrev pub line : Bool → Event
+line on = event (Line on) []
+
 abbrev pub selectPage : ℕ → Event
 selectPage page = write 127 (page ∷ [])
 
@@ -116,7 +113,18 @@ unfoldable pub applied : ℕ → List ℕ → ℕ → ℕ → List Event
 applied address configs selected lane =
     selectPage 0x10 ∷ write address configs ∷ write 143 (selected ∷ []) ∷ work lane ∷ selectPage 0x11 ∷ read 202 4 ∷ []
 
--- the night of 01's example
+-- ---- a module brought up
+
+-- what brings a module from start to ModuleReady, where its paths can be brought up, with the flag read that says so (02 Req 04)
+unfoldable pub readied : List Event
+readied = moduleEvent ∷ moduleEvent ∷ read 8 1 ∷ []
+
+-- the case is as it should be in a module that has been brought there
+unfoldable pub holdsReady : Case → Bool
+holdsReady c =
+    sameBytes (linesFrom 0 (run early listRoom (ending early listRoom (startedState (c .image)) readied) (c .events))) (linesOf (c .seen))
+
+-- the night of 01's example: the module stays in ModuleLowPwr, and so its path in DPDeactivated (amended by 02 Req 04)
 abbrev pub example : Case
 example =
     record {
@@ -127,5 +135,5 @@ example =
           ∷ read 128 2 ∷ [];
       seen =
           "0 0" ∷ "1 0" ∷ "2 0" ∷ "3 0" ∷ "4 0" ∷ "5 0 cc cc 00 00" ∷ "6 0" ∷ "7 0" ∷ "8 0" ∷ "9 0" ∷ "10 0 11 11 00 00"
-          ∷ "11 0 10 10 10 10 00" ∷ "12 0 0f" ∷ "13 6" ∷ "14 0" ∷ "15 0 22 22" ∷ [];
+          ∷ "11 0 10 10 10 10 00" ∷ "12 0 0f" ∷ "13 6" ∷ "14 0" ∷ "15 0 11 11" ∷ [];
     }

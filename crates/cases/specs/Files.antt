@@ -5,14 +5,14 @@ use Prim.Native.String.{String}
 use mathlib.Core.Bool.{Bool}
 use mathlib.Core.List.{List, [], _∷_, _++_, flatten, map}
 use lib.ListN.{length, take}
-use Rattle.bits.specs.Choice.{both}
+use Rattle.bits.specs.Choice.{pick, both}
 use Rattle.bits.specs.Loop.{tab}
 use Rattle.bits.specs.Word.{putWord}
 use Rattle.model.specs.Map.{Image}
 use Rattle.model.specs.Night.{printedText}
 use Rattle.model.specs.Stream.{begun, fedAll, streamed}
 use Rattle.model.specs.declared.event.Call.{Call}
-use Rattle.model.specs.declared.event.Call.the-variants.{Write, Read, Work, Hardware, Condition, Sample, Lasting}
+use Rattle.model.specs.declared.event.Call.the-variants.{Write, Read, Work, Hardware, Condition, Sample, Lasting, Module, Line}
 use Rattle.model.specs.declared.event.Event.{Event}
 use Rattle.cases.specs.Same.{sameBytes}
 use Rattle.cases.specs.Case.{linesOf, blank, holding}
@@ -26,6 +26,8 @@ recordOf (Hardware lane) bytes = 4 ∷ lane ∷ []
 recordOf (Condition flag mask) bytes = 5 ∷ flag ∷ mask ∷ []
 recordOf (Sample lane power) bytes = 6 ∷ lane ∷ power / 256 ∷ power % 256 ∷ []
 recordOf (Lasting flag on off) bytes = 5 ∷ flag ∷ on ∷ off ∷ []
+recordOf Module bytes = 7 ∷ []
+recordOf (Line on) bytes = 8 ∷ pick on 1 0 ∷ []
 
 -- .. and zeros, 12 in all
 unfoldable pub padded : List ℕ → List ℕ

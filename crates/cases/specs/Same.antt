@@ -1,9 +1,9 @@
--- Equality of two states as a test: every byte of the image and every lane's record.
+-- Equality of two states as a test: every byte of the image, every lane's record and the low-power line.
 use Prim.Native.Nat.{ℕ}
 use mathlib.Core.Bool.{Bool, true, false}
 use mathlib.Core.List.{List, [], _∷_}
 use lib.Dec.{eqb}
-use Rattle.bits.specs.Choice.{both}
+use Rattle.bits.specs.Choice.{both, implies}
 use Rattle.model.specs.Records.{heldIn}
 use Rattle.model.specs.State.{State}
 use Rattle.model.specs.Sound.{agrees, sameSettings}
@@ -29,5 +29,10 @@ sameRecords [] (q ∷ qs) = false
 sameRecords (p ∷ ps) [] = false
 sameRecords (p ∷ ps) (q ∷ qs) = both (both (sameStage (p .stage) (q .stage)) (eqb (p .on) (q .on))) (sameRecords ps qs)
 
+unfoldable pub sameLine : Bool → Bool → Bool
+sameLine a b = both (implies a b) (implies b a)
+
 unfoldable pub sameState : State → State → Bool
-sameState s t = both (sameBytes (s .image) (t .image)) (sameRecords (s .working .lanes) (t .working .lanes))
+sameState s t =
+    both (sameBytes (s .image) (t .image))
+    (both (sameRecords (s .working .lanes) (t .working .lanes)) (sameLine (s .working .line) (t .working .line)))

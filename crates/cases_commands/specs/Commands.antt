@@ -36,9 +36,9 @@ driven high low code body replied =
 abbrev pub commands : List Bool
 commands =
     -- 0040h with a code that is one too low: 45h, no reply, the body as it was; the flag is set, pulls the interrupt, and is cleared by a read
-    onCommands (write 136 (0x09 ∷ 0x09 ∷ []) ∷ message 0x00 0x40 0x00 0x00 0x00 0xbe ∷ read 37 1 ∷ read 134 4 ∷ read 3 1 ∷ read 8 1 ∷ read 3 1 ∷ []) ("1 0" ∷ "2 0" ∷ "3 0 45" ∷ "4 0 00 00 09 09" ∷ "5 0 06" ∷ "6 0 40" ∷ "7 0 07" ∷ [])
+    onCommands (write 136 (0x09 ∷ 0x09 ∷ []) ∷ message 0x00 0x40 0x00 0x00 0x00 0xbe ∷ read 37 1 ∷ read 134 4 ∷ read 3 1 ∷ read 8 1 ∷ read 3 1 ∷ []) ("1 0" ∷ "2 0" ∷ "3 0 45" ∷ "4 0 00 00 09 09" ∷ "5 0 02" ∷ "6 0 40" ∷ "7 0 03" ∷ [])
     -- .. with its code: 01h, and the map of what is supported; masked by 31.6 alone
-    ∷ onCommands (message 0x00 0x40 0x00 0x00 0x00 0xbf ∷ read 37 1 ∷ read 3 1 ∷ write 31 (0x40 ∷ []) ∷ read 3 1 ∷ write 31 (0xbf ∷ []) ∷ read 3 1 ∷ read 8 1 ∷ read 3 1 ∷ read 128 44 ∷ []) ("1 0" ∷ "2 0 01" ∷ "3 0 06" ∷ "4 0" ∷ "5 0 07" ∷ "6 0" ∷ "7 0 06" ∷ "8 0 40" ∷ "9 0 07" ∷ "10 0 00 40 00 00 00 bf 24 fb 00 00 01 00 00 00 00 00 00 00 03 00 00 00 00 00 00 00 00 00 00 00 00 00 00 00 00 00 00 00 00 00 00 00 00 00" ∷ [])
+    ∷ onCommands (message 0x00 0x40 0x00 0x00 0x00 0xbf ∷ read 37 1 ∷ read 3 1 ∷ write 31 (0x40 ∷ []) ∷ read 3 1 ∷ write 31 (0xbf ∷ []) ∷ read 3 1 ∷ read 8 1 ∷ read 3 1 ∷ read 128 44 ∷ []) ("1 0" ∷ "2 0 01" ∷ "3 0 02" ∷ "4 0" ∷ "5 0 03" ∷ "6 0" ∷ "7 0 02" ∷ "8 0 40" ∷ "9 0 03" ∷ "10 0 00 40 00 00 00 bf 24 fb 00 00 01 00 00 00 00 00 00 00 03 00 00 00 00 00 00 00 00 00 00 00 00 00 00 00 00 00 00 00 00 00 00 00 00 00" ∷ [])
     -- 0000h with a delay: it has no effect, and the reply ends after two bytes
     ∷ onCommands (write 136 (0x01 ∷ 0xf4 ∷ 0x55 ∷ []) ∷ write 132 (0x02 ∷ 0x08 ∷ []) ∷ write 128 (0x00 ∷ 0x00 ∷ []) ∷ read 37 1 ∷ read 132 7 ∷ []) ("1 0" ∷ "2 0" ∷ "3 0" ∷ "4 0 01" ∷ "5 0 02 08 02 fd 02 00 55" ∷ [])
     -- 0041h: eighteen zeros have a code of FFh, and what lies past them stays
@@ -68,9 +68,10 @@ commands =
     ∷ holds (record { image = versioned; events = write 126 (0x01 ∷ 0x9f ∷ []) ∷ read 126 2 ∷ []; seen = "0 0" ∷ "1 0 00 00" ∷ [] })
     -- a refused access runs nothing
     ∷ onCommands (write 129 (0 ∷ 0 ∷ 0 ∷ 0 ∷ 0 ∷ 0 ∷ 0 ∷ 0 ∷ 0 ∷ []) ∷ read 37 1 ∷ []) ("1 4" ∷ "2 0 00" ∷ [])
-    -- no bit of lower 8 and 9 but 8.6 pulls the interrupt, whatever a lent image has there
-    ∷ not (interrupts (holding 8 (0xbf ∷ 0xff ∷ []) blank))
+    -- no bit of lower 8 and 9 but 8.6 and 8.0 pulls the interrupt, whatever a lent image has there
+    ∷ not (interrupts (holding 8 (0xbe ∷ 0xff ∷ []) blank))
     ∷ interrupts (holding 8 (0x40 ∷ []) blank)
+    ∷ interrupts (holding 8 (0x01 ∷ []) blank)
     ∷ []
 
 -- ---- each command as Linux sends it

@@ -53,6 +53,7 @@ files =
     ∷ spoilt 1 0x4d
     ∷ spoilt 2 0x02
     ∷ spoilt 2 0x03
+    ∷ spoilt 2 0x04
     ∷ spoilt 3 0x01
     ∷ spoilt 7 0x01
     ∷ spoilt 11 0x11

@@ -19,7 +19,7 @@ conditions =
     -- a condition that lasts comes back after each read, and pulls the interrupt; another event begins it on more lanes and ends it on others; once ended its
     -- flags stay till they are read
     onStatus (lasting 135 0x0f 0x00 ∷ read 135 1 ∷ read 135 1 ∷ read 3 1 ∷ lasting 135 0x30 0x3c ∷ read 135 1 ∷ read 135 1 ∷ lasting 135 0x00 0xff ∷ read 3 1 ∷ read 135 1 ∷ read 135 1 ∷ read 3 1 ∷ [])
-    ("1 0" ∷ "2 0 0f" ∷ "3 0 0f" ∷ "4 0 06" ∷ "5 0" ∷ "6 0 3f" ∷ "7 0 33" ∷ "8 0" ∷ "9 0 06" ∷ "10 0 33" ∷ "11 0 00" ∷ "12 0 07" ∷ [])
+    ("1 0" ∷ "2 0 0f" ∷ "3 0 0f" ∷ "4 0 02" ∷ "5 0" ∷ "6 0 3f" ∷ "7 0 33" ∷ "8 0" ∷ "9 0 02" ∷ "10 0 33" ∷ "11 0 00" ∷ "12 0 03" ∷ [])
     -- a bit in both masks is on
     ∷ onStatus (lasting 137 0x81 0x81 ∷ read 137 1 ∷ read 137 1 ∷ []) ("1 0" ∷ "2 0 81" ∷ "3 0 81" ∷ [])
     -- .. and stays on where it was
@@ -37,7 +37,7 @@ conditions =
     ∷ onStatus (lasting 136 0x04 0x00 ∷ lasting 136 0x00 0x04 ∷ read 136 1 ∷ read 136 1 ∷ []) ("1 0" ∷ "2 0" ∷ "3 0 04" ∷ "4 0 00" ∷ [])
     -- under its mask it pulls no interrupt, also after a read
     ∷ onStatus (lasting 147 0x01 0x00 ∷ selectPage 0x10 ∷ write 226 (0x01 ∷ []) ∷ read 3 1 ∷ selectPage 0x11 ∷ read 147 1 ∷ read 3 1 ∷ selectPage 0x10 ∷ write 226 (0x00 ∷ []) ∷ read 3 1 ∷ [])
-    ("1 0" ∷ "2 0" ∷ "3 0" ∷ "4 0 07" ∷ "5 0" ∷ "6 0 01" ∷ "7 0 07" ∷ "8 0" ∷ "9 0" ∷ "10 0 06" ∷ [])
+    ("1 0" ∷ "2 0" ∷ "3 0" ∷ "4 0 03" ∷ "5 0" ∷ "6 0 01" ∷ "7 0 03" ∷ "8 0" ∷ "9 0" ∷ "10 0 02" ∷ [])
     ∷ []
 
 abbrev pub samples : List Bool

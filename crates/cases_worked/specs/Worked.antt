@@ -124,16 +124,16 @@ worked =
       events = applied 152 (0xfe ∷ []) 0x80 7;
       seen = "0 0" ∷ "1 0" ∷ "2 0" ∷ "3 0" ∷ "4 0" ∷ "5 0 00 00 00 30" ∷ [];
     })
-    -- start keeps lower 0-2, 39-40 and 85-117 and pages 00h to 02h; lower 3 is 07h, 11h:128-131 are 11h, the rest is 0
+    -- start keeps lower 0-2, 39-40 and 85-117 and pages 00h to 02h; lower 3 is 03h, 26 is 40h, 11h:128-131 are 11h, the rest is 0
     ∷ holds (record {
       image = map (λ b. 0x2a) blank;
       events =
-          read 0 8 ∷ read 36 8 ∷ read 82 8 ∷ read 112 8 ∷ read 126 2 ∷ read 128 1 ∷ read 255 1 ∷ selectPage 0x01 ∷ read 255 1 ∷ selectPage 0x02
+          read 0 8 ∷ read 25 3 ∷ read 36 8 ∷ read 82 8 ∷ read 112 8 ∷ read 126 2 ∷ read 128 1 ∷ read 255 1 ∷ selectPage 0x01 ∷ read 255 1 ∷ selectPage 0x02
           ∷ read 255 1 ∷ selectPage 0x10 ∷ read 128 8 ∷ selectPage 0x11 ∷ read 128 8 ∷ read 248 8 ∷ [];
       seen =
-          "0 0 2a 2a 2a 07 00 00 00 00" ∷ "1 0 00 00 00 2a 2a 00 00 00" ∷ "2 0 00 00 00 2a 2a 2a 2a 2a" ∷ "3 0 2a 2a 2a 2a 2a 2a 00 00"
-          ∷ "4 0 00 00" ∷ "5 0 2a" ∷ "6 0 2a" ∷ "7 0" ∷ "8 0 2a" ∷ "9 0" ∷ "10 0 2a" ∷ "11 0" ∷ "12 0 00 00 00 00 00 00 00 00" ∷ "13 0"
-          ∷ "14 0 11 11 11 11 00 00 00 00" ∷ "15 0 00 00 00 00 00 00 00 00" ∷ [];
+          "0 0 2a 2a 2a 03 00 00 00 00" ∷ "1 0 00 40 00" ∷ "2 0 00 00 00 2a 2a 00 00 00" ∷ "3 0 00 00 00 2a 2a 2a 2a 2a"
+          ∷ "4 0 2a 2a 2a 2a 2a 2a 00 00" ∷ "5 0 00 00" ∷ "6 0 2a" ∷ "7 0 2a" ∷ "8 0" ∷ "9 0 2a" ∷ "10 0" ∷ "11 0 2a" ∷ "12 0"
+          ∷ "13 0 00 00 00 00 00 00 00 00" ∷ "14 0" ∷ "15 0 11 11 11 11 00 00 00 00" ∷ "16 0 00 00 00 00 00 00 00 00" ∷ [];
     })
     -- the host may write 10h:128-132, 137-139, up to 153, from 156 to 173, and 213-232, nothing of 02h and 11h
     ∷ holds (record {
@@ -173,8 +173,8 @@ worked =
           ∷ write 228 (0x80 ∷ []) ∷ write 230 (0x80 ∷ []) ∷ read 3 1 ∷ write 230 (0x7f ∷ []) ∷ read 3 1 ∷ selectPage 0x11 ∷ read 136 1
           ∷ read 134 20 ∷ read 3 1 ∷ read 200 2 ∷ read 134 20 ∷ condition 134 0x01 ∷ hardware 9 ∷ sample 8 1 ∷ work 8 ∷ [];
       seen =
-          "0 0" ∷ "1 0 06" ∷ "2 0" ∷ "3 0" ∷ "4 0" ∷ "5 0" ∷ "6 0 06" ∷ "7 0" ∷ "8 0" ∷ "9 0 07" ∷ "10 0" ∷ "11 0 06" ∷ "12 0" ∷ "13 0 81"
-          ∷ "14 0 00 00 00 00 00 00 00 00 00 00 00 00 00 00 00 80 00 80 00 00" ∷ "15 0 06" ∷ "16 0 00 65"
+          "0 0" ∷ "1 0 02" ∷ "2 0" ∷ "3 0" ∷ "4 0" ∷ "5 0" ∷ "6 0 02" ∷ "7 0" ∷ "8 0" ∷ "9 0 03" ∷ "10 0" ∷ "11 0 02" ∷ "12 0" ∷ "13 0 81"
+          ∷ "14 0 00 00 00 00 00 00 00 00 00 00 00 00 00 00 00 80 00 80 00 00" ∷ "15 0 02" ∷ "16 0 00 65"
           ∷ "17 0 00 00 00 00 00 00 00 00 00 00 00 00 00 00 00 80 00 80 00 00" ∷ "18 8" ∷ "19 8" ∷ "20 8" ∷ "21 8" ∷ [];
     })
     -- samples at each limit and one beyond it, a lane each
@@ -198,15 +198,15 @@ worked =
     })
     -- Req 08, start: low alarm above low warning is 10, equal is taken
     ∷ holds (record { image = limited 257 256 900 999 blank; events = read 3 1 ∷ []; seen = "bad 10" ∷ [] })
-    ∷ holds (record { image = limited 256 256 900 999 blank; events = read 3 1 ∷ []; seen = "0 0 07" ∷ [] })
+    ∷ holds (record { image = limited 256 256 900 999 blank; events = read 3 1 ∷ []; seen = "0 0 03" ∷ [] })
     -- .. low warning above high warning
     ∷ holds (record { image = limited 100 512 511 999 blank; events = read 3 1 ∷ []; seen = "bad 10" ∷ [] })
-    ∷ holds (record { image = limited 100 511 511 999 blank; events = read 3 1 ∷ []; seen = "0 0 07" ∷ [] })
+    ∷ holds (record { image = limited 100 511 511 999 blank; events = read 3 1 ∷ []; seen = "0 0 03" ∷ [] })
     -- .. high warning above high alarm
     ∷ holds (record { image = limited 100 200 768 767 blank; events = read 3 1 ∷ []; seen = "bad 10" ∷ [] })
-    ∷ holds (record { image = limited 100 200 767 767 blank; events = read 3 1 ∷ []; seen = "0 0 07" ∷ [] })
+    ∷ holds (record { image = limited 100 200 767 767 blank; events = read 3 1 ∷ []; seen = "0 0 03" ∷ [] })
     -- .. all equal, at the top
-    ∷ holds (record { image = limited 65535 65535 65535 65535 blank; events = read 3 1 ∷ []; seen = "0 0 07" ∷ [] })
+    ∷ holds (record { image = limited 65535 65535 65535 65535 blank; events = read 3 1 ∷ []; seen = "0 0 03" ∷ [] })
     -- .. flat and back to front: 2 comes first
     ∷ holds (record { image = holding 2 (0x80 ∷ []) (limited 4 3 2 1 blank); events = read 3 1 ∷ []; seen = "bad 2" ∷ [] })
     ∷ []

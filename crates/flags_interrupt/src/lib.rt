@@ -6,10 +6,10 @@ ghost use Rattle.model.specs.Flags.{interrupts, settledImage};
 ghost use Rattle.model.specs.Map.{imageLength};
 use bits::Place;
 
-// Lower 31, the masks of the module's own flags, and the one bit of theirs that counts: CdbCmdCompleteFlag1.
+// Lower 31, the masks of the module's own flags, and the bits of theirs that count: CdbCmdCompleteFlag1 and ModuleStateChangedFlag.
 const MODULE_MASKS: usize = 31;
 
-const COMMAND_COMPLETE: u8 = 0x40;
+const COUNTED_FLAGS: u8 = 0x41;
 
 // The flag bytes' masks, 10h:213-232.
 const FLAG_MASKS: usize = map::PAGE_10 + (213 - 128);
@@ -25,7 +25,7 @@ fn is_due(image: &[u8]) -> bool
     for k in 0..FLAG_BYTE_COUNT {
         due = due | (image[map::FLAG_BYTES + k] & !image[FLAG_MASKS + k]);
     }
-    let own = image[map::MODULE_FLAGS] & COMMAND_COMPLETE & !image[MODULE_MASKS];
+    let own = image[map::MODULE_FLAGS] & COUNTED_FLAGS & !image[MODULE_MASKS];
     (own | due) != 0
 }
 

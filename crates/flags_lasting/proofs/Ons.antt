@@ -14,7 +14,7 @@ use Rattle.bits.proofs.Tests.{and-both, or-either}
 use Rattle.bits.proofs.Loops.{each-skip, each-hit}
 use Rattle.model.specs.Numbers.{OnBits}
 use Rattle.model.specs.Map.{Image}
-use Rattle.model.specs.Records.{recordAt, onAt, withOn, withOns, withFlagOn}
+use Rattle.model.specs.Records.{recordAt, onAt, withLanes, withOn, withOns, withFlagOn}
 use Rattle.model.specs.State.{stateWith}
 use Rattle.model.specs.Flags.{conditionOn, sampledOn, sampledState}
 use Rattle.model.specs.declared.lane.LaneRecord.{LaneRecord}
@@ -33,10 +33,10 @@ unfolding withOn
 same-on r = refl
 
 -- a loop over the lanes that pass the test
-pub ons-loop : (c : ℕ → Bool) (f : ℕ → OnBits → OnBits) (w v : Working) → length (w .lanes) ≡ laneCount
+pub ons-loop : (c : ℕ → Bool) (f : ℕ → OnBits → OnBits) (w v : Working) → length (w .lanes) ≡ laneCount → v .line ≡ w .line
     → v .lanes ≡ each c (turned f) laneCount (w .lanes) → v ≡ withOns w (λ l. pick (c l) (f l (onAt w l)) (onAt w l))
 unfolding withOns
-ons-loop c f w v e h = let m = h ∙ fields-loop (λ r. r .on) withOn same-on c f (w .lanes) e in λ i. record { lanes = m i }
+ons-loop c f w v e l h = let m = h ∙ fields-loop (λ r. r .on) withOn same-on c f (w .lanes) e in λ i. record { lanes = m i; line = l i }
 
 -- what is on of a lane after a lasting condition, from the code's tests
 pub condition-by : (k on off l bits after : ℕ) (was ends begins : Bool) → was ≡ has bits k → ends ≡ has off l → begins ≡ has on l
@@ -56,7 +56,7 @@ one-lane f l rs h =
 -- .. and of the lane of a sample
 pub sampled-by : (l p : ℕ) (x : Image) (w : Working) (beyond : Crossing) (after : OnBits) → length (w .lanes) ≡ laneCount → l < laneCount
     → beyond ≡ crossing x p → after ≡ beyondOn beyond (onAt w l)
-    → record { lanes = set (w .lanes) l (withOn (recordAt w l) after) } ≡ sampledState l p (stateWith x w) .working
+    → withLanes w (set (w .lanes) l (withOn (recordAt w l) after)) ≡ sampledState l p (stateWith x w) .working
 unfolding sampledState sampledOn beyondOn
 sampled-by l p x w beyond after e h b a =
-    ons-loop (eqb l) (λ k. sampledOn x p) w _ e (rw (a, b) (one-lane (λ k. sampledOn x p) l (w .lanes) h))
+    ons-loop (eqb l) (λ k. sampledOn x p) w _ e refl (rw (a, b) (one-lane (λ k. sampledOn x p) l (w .lanes) h))

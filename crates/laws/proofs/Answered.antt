@@ -22,7 +22,7 @@ use Rattle.model.specs.Outcome.{startOutcomeBy, startOutcome, stepOutcome, call
 use Rattle.model.specs.declared.answer.Answer.{Answer}
 use Rattle.model.specs.declared.answer.Answer.the-variants.{Done}
 use Rattle.model.specs.declared.event.Call.{Call}
-use Rattle.model.specs.declared.event.Call.the-variants.{Write, Read, Work, Hardware, Condition, Sample, Lasting}
+use Rattle.model.specs.declared.event.Call.the-variants.{Write, Read, Work, Hardware, Condition, Sample, Lasting, Module, Line}
 use Rattle.model.specs.declared.event.Event.{Event}
 use Rattle.laws.specs.Asked.{Asked, start, call, list, outcomeOf, givenState, holds, order, FirstAt, NoneHolds, turnedLimits, isUnsound, badAccess, badPlace, shortRead, busyCall, idleCall, ofEvent, shortBuffer}
 
@@ -84,6 +84,8 @@ asked-call s buffer bytes (Hardware l) = refl
 asked-call s buffer bytes (Condition flag mask) = refl
 asked-call s buffer bytes (Sample l p) = refl
 asked-call s buffer bytes (Lasting flag on off) = refl
+asked-call s buffer bytes Module = refl
+asked-call s buffer bytes (Line on) = refl
 
 -- a step answers what the event's refusals say
 pub step-answer : (room : ℕ) (s : State) (e : Event) → step early room s e .answer ≡ firstOf (eventRefusals room s (e .call))

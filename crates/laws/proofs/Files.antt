@@ -1,30 +1,30 @@
 -- A header and a record are refused exactly when they have a fault; a night file, with any limit of records, is answered 9 exactly when it has
 -- a fault, and else what start answers to its image (01 "The night file"). Assumes nothing.
-use mathlib.Core.Path.{_≡_, refl, ap, subst}
+use mathlib.Core.Path.{_≡_, refl, ap, subst, _∙_}
 use mathlib.Core.Bool.{Bool, true, false, not}
-use mathlib.Core.List.{List}
-use mathlib.Core.Logic.{_↔_, _≢_}
+use mathlib.Core.List.{List, [], _++_}
+use mathlib.Core.Logic.{_⊎_, inl, inr, _↔_, _≢_}
 use Prim.Native.Nat.{ℕ, zero, suc, _+_, _*_, _≤_, _<_}
-use native.Mathlib.Decide.{ℕ-discrete}
+use native.Mathlib.Decide.{ℕ-discrete, decLt}
 use native.Mathlib.Omega.{arith}
 use lib.Dec.{ltb}
 use lib.ListN.{length, getD}
-use borrow.Author.Tests.{ltb-true, ltb-false, leb-true, leb-false, eqb-true, eqb-false, lt-ltb, le-leb, eq-eqb, ne-eqb}
+use borrow.Author.Tests.{ltb-true, ltb-false, leb-true, leb-false, eqb-true, eqb-false, lt-ltb, le-ltb, le-leb, eq-eqb, ne-eqb}
 use Rattle.bits.specs.Choice.{pick, both, implies}
 use Rattle.bits.specs.Loop.{allBelow}
-use Rattle.bits.proofs.Tests.{split, clash, both-l, both-r, implies-use}
+use Rattle.bits.proofs.Tests.{split, clash, both-l, both-r, implies-use, pick-true, pick-false}
 use Rattle.bits.proofs.Loops.{all-at}
 use Rattle.model.specs.Map.{imageLength}
 use Rattle.model.specs.Answers.{number, isDone}
 use Rattle.model.specs.Refusals.{firstOf, isFlat, isBackToFront, wrongLength, imageRefusals, startRefusals}
 use Rattle.model.specs.Outcome.{startOutcomeBy, startOutcome}
-use Rattle.model.specs.File.{Edition, formsWith, onceCall, lastingCall, laterEditions, editionAmong, editionOf, recordsOffset, recordLength, recordCount, isHeader, isWholeLength, carriedImage, imageIn, recordIn, kindOf, writeKind, readKind, workKind, hardwareKind, conditionKind, sampleKind, dataLimit, writtenBytes, usedBytes, isRecord, isWellFormed, fileCheckBy, fileCheckUpTo}
+use Rattle.model.specs.File.{Form, Edition, formsWith, onceCall, lastingCall, lineBytes, powerForms, laterEditions, editionAmong, editionOf, recordsOffset, recordLength, recordCount, isHeader, isWholeLength, carriedImage, imageIn, recordIn, kindOf, writeKind, readKind, workKind, hardwareKind, conditionKind, sampleKind, moduleKind, lineKind, dataLimit, writtenBytes, usedBytes, isRecord, isWellFormed, fileCheckBy, fileCheckUpTo}
 use Rattle.model.specs.declared.answer.Answer.the-variants.{WrongLength, FlatMemory, Malformed, BackToFront}
 use Rattle.model.specs.declared.file.FileCheck.{FileCheck}
 use Rattle.model.specs.declared.file.FileCheck.the-variants.{Refused, Good}
 use Rattle.model.specs.declared.event.Call.{Call}
 use Rattle.model.proofs.Editions.{first, row, among-has, length-laid-out}
-use Rattle.laws.specs.Files.{NotListed, conditionBytes, Unused, pastCount, pastData, pastRead, pastWork, pastHardware, pastCondition, pastSample, RecordFault, noSuchKind, unusedByte, HeaderFault, firstLetter, secondLetter, otherEdition, notZero, tooMany, imageElsewhere, recordsElsewhere, Fault, inHeader, otherLength, inRecord, Found, malformed, flat, backToFront, good}
+use Rattle.laws.specs.Files.{NotListed, conditionBytes, Unused, pastCount, pastData, pastRead, pastWork, pastHardware, pastCondition, pastSample, pastModule, pastLine, RecordFault, noSuchKind, unusedByte, neitherOnNorOff, HeaderFault, firstLetter, secondLetter, otherEdition, notZero, tooMany, imageElsewhere, recordsElsewhere, Fault, inHeader, otherLength, inRecord, Found, malformed, flat, backToFront, good}
 
 -- ---- tests that fail
 
@@ -52,17 +52,19 @@ fails-exactly b shows none = (shows, λ f. split b (λ e. absurd (none e f)) (λ
 -- ---- a record
 
 -- the kind of a record, or none
-data Kind (kind : ℕ) : Type 0 where
-  writes : kind ≡ writeKind → Kind kind
-  reads : kind ≡ readKind → Kind kind
-  works : kind ≡ workKind → Kind kind
-  moves : kind ≡ hardwareKind → Kind kind
-  raises : kind ≡ conditionKind → Kind kind
-  samples : kind ≡ sampleKind → Kind kind
-  other : NotListed kind → Kind kind
+data Kind (e : Edition) (kind : ℕ) : Type 0 where
+  writes : kind ≡ writeKind → Kind e kind
+  reads : kind ≡ readKind → Kind e kind
+  works : kind ≡ workKind → Kind e kind
+  moves : kind ≡ hardwareKind → Kind e kind
+  raises : kind ≡ conditionKind → Kind e kind
+  samples : kind ≡ sampleKind → Kind e kind
+  advances : 4 ≤ e .number → kind ≡ moduleKind → Kind e kind
+  sets : 4 ≤ e .number → kind ≡ lineKind → Kind e kind
+  other : NotListed e kind → Kind e kind
 
-kind-is : (kind : ℕ) → Kind kind
-kind-is kind = elim (ℕ-discrete kind writeKind) [
+kind-is : (e : Edition) (kind : ℕ) → Kind e kind
+kind-is e kind = elim (ℕ-discrete kind writeKind) [
   | yes e ↦ writes e
   | no n₁ ↦ elim (ℕ-discrete kind readKind) [
     | yes e ↦ reads e
@@ -74,7 +76,16 @@ kind-is kind = elim (ℕ-discrete kind writeKind) [
           | yes e ↦ raises e
           | no n₅ ↦ elim (ℕ-discrete kind sampleKind) [
             | yes e ↦ samples e
-            | no n₆ ↦ other (record { write = n₁; read = n₂; work = n₃; hardware = n₄; condition = n₅; sample = n₆ })
+            | no n₆ ↦ elim (decLt (e .number) 4) [
+              | yes h ↦ other (record { write = n₁; read = n₂; work = n₃; hardware = n₄; condition = n₅; sample = n₆; power = λ g. absurd (omega arith) })
+              | no h ↦ elim (ℕ-discrete kind moduleKind) [
+                | yes k ↦ advances (omega arith) k
+                | no n₇ ↦ elim (ℕ-discrete kind lineKind) [
+                  | yes k ↦ sets (omega arith) k
+                  | no n₈ ↦ other (record { write = n₁; read = n₂; work = n₃; hardware = n₄; condition = n₅; sample = n₆; power = λ g. (n₇, n₈) })
+                ]
+              ]
+            ]
           ]
         ]
       ]
@@ -82,26 +93,29 @@ kind-is kind = elim (ℕ-discrete kind writeKind) [
   ]
 ]
 
--- the forms of an edition's records: a condition uses the bytes that the fault list says
+-- the forms of an edition's records: a condition uses the bytes that the fault list says, and the events of the module's power come with the fourth
 record Listed (e : Edition) : Type 0 where
   conditionCall : List ℕ → Call
-  forms : e .forms ≡ formsWith (conditionBytes e) conditionCall
+  others : List Form
+  forms : e .forms ≡ formsWith (conditionBytes e) conditionCall ++ others
   some : 0 < conditionBytes e
+  power : ((e .number < 4) × (others ≡ [])) ⊎ ((4 ≤ e .number) × (others ≡ powerForms))
 
 listed : (n : ℕ) → Listed (editionAmong laterEditions n)
 unfolding pick
 listed n =
     among-has Listed n laterEditions
-    (row (record { conditionCall = onceCall; forms = refl; some = omega arith })
-    (row (record { conditionCall = lastingCall; forms = refl; some = omega arith })
-    (first (record { conditionCall = onceCall; forms = refl; some = omega arith }))))
+    (row (record { conditionCall = onceCall; others = []; forms = refl; some = omega arith; power = inl (omega arith, refl) })
+    (row (record { conditionCall = lastingCall; others = []; forms = refl; some = omega arith; power = inl (omega arith, refl) })
+    (row (record { conditionCall = lastingCall; others = powerForms; forms = refl; some = omega arith; power = inr (omega arith, refl) })
+    (first (record { conditionCall = onceCall; others = []; forms = refl; some = omega arith; power = inl (omega arith, refl) })))))
 
 module _ (e : Edition) (l : Listed e) (bytes : List ℕ) where
   abbrev used : ℕ
   used = usedBytes (e .forms) bytes
 
   -- a kind that is not listed uses no byte
-  used-none : NotListed (kindOf bytes) → used ≡ 0
+  used-none : NotListed e (kindOf bytes) → used ≡ 0
   unfolding usedBytes pick
   used-none n = rw (
     l .forms,
@@ -111,7 +125,49 @@ module _ (e : Edition) (l : Listed e) (bytes : List ℕ) where
     ne-eqb (kindOf bytes) hardwareKind (n .hardware),
     ne-eqb (kindOf bytes) conditionKind (n .condition),
     ne-eqb (kindOf bytes) sampleKind (n .sample),
+  ) (elim (l .power) [
+    | inl h ↦ rw (h .1)
+    | inr h ↦ rw (h .1, ne-eqb (kindOf bytes) moduleKind (n .power (h .0) .0), ne-eqb (kindOf bytes) lineKind (n .power (h .0) .1))
+  ])
+
+  -- what an event of the module's power uses: nothing before the fourth edition
+  used-power : (kind : ℕ) → kindOf bytes ≡ kind → sampleKind < kind → used ≡ usedBytes (l .others) bytes
+  unfolding usedBytes pick
+  used-power kind k h = rw (
+    l .forms,
+    ne-eqb (kindOf bytes) writeKind (omega arith),
+    ne-eqb (kindOf bytes) readKind (omega arith),
+    ne-eqb (kindOf bytes) workKind (omega arith),
+    ne-eqb (kindOf bytes) hardwareKind (omega arith),
+    ne-eqb (kindOf bytes) conditionKind (omega arith),
+    ne-eqb (kindOf bytes) sampleKind (omega arith),
   )
+
+  used-module : kindOf bytes ≡ moduleKind → (used ≡ 0) ⊎ (used ≡ 1)
+  unfolding usedBytes pick
+  used-module k = elim (l .power) [
+    | inl h ↦ inl (used-power moduleKind k (omega arith) ∙ rw (h .1))
+    | inr h ↦ inr (used-power moduleKind k (omega arith) ∙ rw (h .1, k))
+  ]
+
+  used-line : kindOf bytes ≡ lineKind → (used ≡ 0) ⊎ (used ≡ lineBytes bytes)
+  unfolding usedBytes pick
+  used-line k = elim (l .power) [
+    | inl h ↦ inl (used-power lineKind k (omega arith) ∙ rw (h .1))
+    | inr h ↦ inr (used-power lineKind k (omega arith) ∙ rw (h .1, k))
+  ]
+
+  -- a line that is to be on or off uses its byte, and any other nothing
+  line-some : getD bytes 1 0 < 2 → lineBytes bytes ≡ 2
+  unfolding lineBytes
+  line-some h = pick-true _ _ (lt-ltb (getD bytes 1 0) 2 h)
+
+  line-none : 2 ≤ getD bytes 1 0 → lineBytes bytes ≡ 0
+  unfolding lineBytes
+  line-none h = pick-false _ _ (le-ltb (getD bytes 1 0) 2 h)
+
+  line-most : lineBytes bytes ≤ 2
+  line-most = elim (decLt (getD bytes 1 0) 2) [ yes h ↦ omega (arith, line-some h) | no h ↦ omega (arith, line-none (omega arith)) ]
 
   -- a byte that a record does not use lies past those that it uses
   unused-past : {j : ℕ} → Unused e bytes j → used ≤ j
@@ -127,6 +183,8 @@ module _ (e : Edition) (l : Listed e) (bytes : List ℕ) where
   unused-past (pastHardware k h) = rw (l .forms, k) h
   unused-past (pastCondition k h) = rw (l .forms, k) h
   unused-past (pastSample k h) = rw (l .forms, k) h
+  unused-past (pastModule k h) = elim (used-module k) [ inl u ↦ omega arith | inr u ↦ omega arith ]
+  unused-past (pastLine k h) = elim (used-line k) [ inl u ↦ omega arith | inr u ↦ omega (arith, line-most) ]
 
   -- of a write: past its count, or past the bytes that a record carries
   write-unused : (j : ℕ) → kindOf bytes ≡ writeKind → used ≤ j → Unused e bytes j
@@ -145,8 +203,11 @@ module _ (e : Edition) (l : Listed e) (bytes : List ℕ) where
       let i = implies-fails _ _ (r .2) in
       unusedByte (r .0) (r .1) (past (r .0) (leb-true _ _ (i .0))) (eqb-false _ _ (i .1)))
 
-  -- .. or in its kind
-  record-fault : Kind (kindOf bytes) → isRecord e bytes ≡ false → RecordFault e bytes
+  power-listed : 4 ≤ e .number → l .others ≡ powerForms
+  power-listed g = elim (l .power) [ inl h ↦ absurd (omega (arith, h .0)) | inr h ↦ h .1 ]
+
+  -- .. or in its kind, or in the line that it names
+  record-fault : Kind e (kindOf bytes) → isRecord e bytes ≡ false → RecordFault e bytes
   unfolding usedBytes writtenBytes pick
   record-fault (writes k) = byte-fault (rw (l .forms, k) (omega arith)) (λ j. write-unused j k)
   record-fault (reads k) = byte-fault (rw (l .forms, k) (omega arith)) (λ j h. pastRead k (rw (l .forms, k) at h))
@@ -154,19 +215,29 @@ module _ (e : Edition) (l : Listed e) (bytes : List ℕ) where
   record-fault (moves k) = byte-fault (rw (l .forms, k) (omega arith)) (λ j h. pastHardware k (rw (l .forms, k) at h))
   record-fault (raises k) = byte-fault (rw (l .forms, k) (l .some)) (λ j h. pastCondition k (rw (l .forms, k) at h))
   record-fault (samples k) = byte-fault (rw (l .forms, k) (omega arith)) (λ j h. pastSample k (rw (l .forms, k) at h))
+  record-fault (advances g k) = let u : used ≡ 1 = used-power moduleKind k (omega arith) ∙ rw (power-listed g, k) in
+      byte-fault (omega arith) (λ j h. pastModule k (omega arith))
+  record-fault (sets g k) = let u : used ≡ lineBytes bytes = used-power lineKind k (omega arith) ∙ rw (power-listed g, k) in
+      elim (decLt (getD bytes 1 0) 2) [
+        | yes h ↦ byte-fault (omega (arith, line-some h)) (λ j p. pastLine k (omega (arith, line-some h)))
+        | no h ↦ λ t. neitherOnNorOff k (omega arith)
+      ]
   record-fault (other n) = λ t. noSuchKind n
 
   -- one that passes has none
   no-record-fault : isRecord e bytes ≡ true → RecordFault e bytes → ⊥
   unfolding isRecord
   no-record-fault h (noSuchKind n) = let u : 0 < used = ltb-true _ _ (both-l _ _ h) in omega (arith, used-none n)
+  no-record-fault h (neitherOnNorOff k b) =
+      let u : 0 < used = ltb-true _ _ (both-l _ _ h) in
+      elim (used-line k) [ inl z ↦ omega arith | inr z ↦ omega (arith, line-none b) ]
   no-record-fault h (unusedByte j b u n) = n (eqb-true _ _ (implies-use _ _ (all-at recordLength _ (both-r _ _ h) j b) (le-leb _ _ (unused-past u))))
 
 -- the test of a record fails exactly where it has a fault, in the edition of any number
 pub record-exactly : (n : ℕ) (bytes : List ℕ) → (isRecord (editionAmong laterEditions n) bytes ≡ false) ↔ RecordFault (editionAmong laterEditions n) bytes
 record-exactly n bytes =
     let e = editionAmong laterEditions n in
-    fails-exactly _ (record-fault e (listed n) bytes (kind-is (kindOf bytes))) (no-record-fault e (listed n) bytes)
+    fails-exactly _ (record-fault e (listed n) bytes (kind-is e (kindOf bytes))) (no-record-fault e (listed n) bytes)
 
 -- ---- a header
 

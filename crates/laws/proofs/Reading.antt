@@ -24,7 +24,7 @@ use Rattle.model.specs.declared.lane.Verdict.the-variants.{Pass, Reject}
 use Rattle.model.specs.declared.lane.Stage.{Stage}
 use Rattle.model.specs.declared.lane.Stage.the-variants.{Idle, InProgress}
 use Rattle.model.specs.declared.event.Call.{Call}
-use Rattle.model.specs.declared.event.Call.the-variants.{Write, Read, Work, Hardware, Condition, Sample, Lasting}
+use Rattle.model.specs.declared.event.Call.the-variants.{Write, Read, Work, Hardware, Condition, Sample, Lasting, Module, Line}
 use Rattle.model.specs.declared.event.Event.{Event}
 use Rattle.laws.specs.Reading.{givenBy}
 use Rattle.laws.proofs.Unchanged.{laid-front}
@@ -50,6 +50,8 @@ module _ (mode : Mode) (s : State) where
   carried-reads bytes (Condition flag mask) = refl
   carried-reads bytes (Sample l p) = refl
   carried-reads bytes (Lasting flag on off) = refl
+  carried-reads bytes Module = refl
+  carried-reads bytes (Line on) = refl
 
   module _ (room : ℕ) (e : Event) where
     -- a step that is done reads as many bytes as its event asks for, and one that is refused none

@@ -16,7 +16,7 @@ use Rattle.model.specs.Outcome.{Outcome, startOutcome, callOutcome, listOutcome
 use Rattle.model.specs.declared.answer.Answer.{Answer}
 use Rattle.model.specs.declared.answer.Answer.the-variants.{Done, WrongLength, FlatMemory, Unsound, BadAccess, ShortBuffer, NothingOnLane, Busy, NoSuchTarget, Malformed, BackToFront}
 use Rattle.model.specs.declared.event.Call.{Call}
-use Rattle.model.specs.declared.event.Call.the-variants.{Write, Read, Work, Hardware, Condition, Sample, Lasting}
+use Rattle.model.specs.declared.event.Call.the-variants.{Write, Read, Work, Hardware, Condition, Sample, Lasting, Module, Line}
 use Rattle.model.specs.declared.event.Event.{Event}
 
 -- start of an image; an event on a state, with the buffer that a read is lent; a list of events, with the answer buffer
@@ -66,6 +66,8 @@ badAccess (Hardware l) = false
 badAccess (Condition flag mask) = false
 badAccess (Sample l p) = false
 badAccess (Lasting flag on off) = false
+badAccess Module = false
+badAccess (Line on) = false
 
 -- 8: lane above 7, or a condition's flag byte not listed
 unfoldable pub badPlace : Call → Bool
@@ -76,6 +78,8 @@ badPlace (Hardware l) = noSuchLane l
 badPlace (Condition flag mask) = not (isConditionFlag flag)
 badPlace (Sample l p) = noSuchLane l
 badPlace (Lasting flag on off) = not (isConditionFlag flag)
+badPlace Module = false
+badPlace (Line on) = false
 
 -- 5: read buffer shorter than the count
 unfoldable pub shortRead : List ℕ → Call → Bool
@@ -86,6 +90,8 @@ shortRead buffer (Hardware l) = false
 shortRead buffer (Condition flag mask) = false
 shortRead buffer (Sample l p) = false
 shortRead buffer (Lasting flag on off) = false
+shortRead buffer Module = false
+shortRead buffer (Line on) = false
 
 -- 7: hardware event on a lane that is in progress or whose path has such a lane
 unfoldable pub busyCall : State → Call → Bool
@@ -96,6 +102,8 @@ busyCall s (Hardware l) = isBusy s l
 busyCall s (Condition flag mask) = false
 busyCall s (Sample l p) = false
 busyCall s (Lasting flag on off) = false
+busyCall s Module = false
+busyCall s (Line on) = false
 
 -- 6: work step on an idle lane; hardware event on an unused lane
 unfoldable pub idleCall : State → Call → Bool
@@ -106,6 +114,8 @@ idleCall s (Hardware l) = isUnused s l
 idleCall s (Condition flag mask) = false
 idleCall s (Sample l p) = false
 idleCall s (Lasting flag on off) = false
+idleCall s Module = false
+idleCall s (Line on) = false
 
 -- a condition of the event itself: asked of a call alone, since a list of events is answered event by event
 unfoldable pub ofEvent : (State → List ℕ → Call → Bool) → Asked → Bool

@@ -10,26 +10,28 @@ use lib.ListN.{length, getD}
 use Rattle.bits.specs.Choice.{pick}
 use Rattle.bits.specs.Word.{word}
 use Rattle.model.specs.Refusals.{isFlat, isBackToFront}
-use Rattle.model.specs.File.{Edition, editionOf, imageOffset, recordsOffset, recordLength, recordCount, imageIn, recordIn, kindOf, writeKind, readKind, workKind, hardwareKind, conditionKind, sampleKind, dataStart, dataLimit}
+use Rattle.model.specs.File.{Edition, editionOf, imageOffset, recordsOffset, recordLength, recordCount, imageIn, recordIn, kindOf, writeKind, readKind, workKind, hardwareKind, conditionKind, sampleKind, moduleKind, lineKind, dataStart, dataLimit}
 use Rattle.model.specs.declared.answer.Answer.the-variants.{FlatMemory, Malformed, BackToFront}
 use Rattle.model.specs.declared.file.FileCheck.{FileCheck}
 use Rattle.model.specs.declared.file.FileCheck.the-variants.{Refused, Good}
 
--- none of the six kinds: write, read, work, hardware, condition, sample
-pub record NotListed (kind : ℕ) : Type 0 where
+-- none of an edition's kinds: write, read, work, hardware, condition, sample; from the fourth edition on the module event and the low-power line
+pub record NotListed (e : Edition) (kind : ℕ) : Type 0 where
   pub write : kind ≢ writeKind
   pub read : kind ≢ readKind
   pub work : kind ≢ workKind
   pub hardware : kind ≢ hardwareKind
   pub condition : kind ≢ conditionKind
   pub sample : kind ≢ sampleKind
+  pub power : 4 ≤ e .number → (kind ≢ moduleKind) × (kind ≢ lineKind)
 
 -- how many bytes of a record a condition uses, in an edition: its kind, a flag byte and a mask, and from the third edition on another mask
 abbrev pub conditionBytes : Edition → ℕ
 conditionBytes e = pick (ltb (e .number) 3) 3 4
 
 -- byte j of a record is one that its kind does not use, in the file's edition: what lies past a write's count of data, or past the eight bytes
--- that a record carries; past a read's address and count, a lane, what a condition uses, a lane and the two bytes of its sample
+-- that a record carries; past a read's address and count, a lane, what a condition uses, a lane and the two bytes of its sample; past the kind of a module event,
+-- past what a line is to be
 pub data Unused (e : Edition) (bytes : List ℕ) (j : ℕ) : Type 0 where
   pastCount : kindOf bytes ≡ writeKind → dataStart + getD bytes 2 0 ≤ j → Unused e bytes j
   pastData : kindOf bytes ≡ writeKind → dataStart + dataLimit ≤ j → Unused e bytes j
@@ -38,11 +40,14 @@ pub data Unused (e : Edition) (bytes : List ℕ) (j : ℕ) : Type 0 where
   pastHardware : kindOf bytes ≡ hardwareKind → 2 ≤ j → Unused e bytes j
   pastCondition : kindOf bytes ≡ conditionKind → conditionBytes e ≤ j → Unused e bytes j
   pastSample : kindOf bytes ≡ sampleKind → 4 ≤ j → Unused e bytes j
+  pastModule : kindOf bytes ≡ moduleKind → 1 ≤ j → Unused e bytes j
+  pastLine : kindOf bytes ≡ lineKind → 2 ≤ j → Unused e bytes j
 
--- a fault of a record in an edition: in its kind, in a byte that it does not use
+-- a fault of a record in an edition: in its kind, in a byte that it does not use, in a line that is to be neither on, 1, nor off, 0
 pub data RecordFault (e : Edition) (bytes : List ℕ) : Type 0 where
-  noSuchKind : NotListed (kindOf bytes) → RecordFault e bytes
+  noSuchKind : NotListed e (kindOf bytes) → RecordFault e bytes
   unusedByte : (j : ℕ) → j < recordLength → Unused e bytes j → getD bytes j 0 ≢ 0 → RecordFault e bytes
+  neitherOnNorOff : kindOf bytes ≡ lineKind → 2 ≤ getD bytes 1 0 → RecordFault e bytes
 
 -- a fault of a header: in the letters "WL", the edition, the zero, the count, the offsets
 pub data HeaderFault (limit : ℕ) (header : List ℕ) : Type 0 where

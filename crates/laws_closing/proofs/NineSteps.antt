@@ -1,5 +1,5 @@
--- A group in progress closes after at most nine work steps on its lanes, whatever is called between them: nothing else changes their records, and each of
--- these steps copies one lane more or closes. Assumes nothing.
+-- A group in progress closes after at most nine work steps on its lanes, whatever is called between them: nothing else changes their records but a reset, which
+-- drops the whole group, and each of these steps copies one lane more or closes. Assumes nothing.
 use mathlib.Core.Path.{_≡_, refl, ap, _∙_}
 use mathlib.Core.Bool.{Bool, true, false}
 use mathlib.Core.List.{List, [], _∷_}
@@ -19,12 +19,13 @@ use Rattle.model.specs.Records.{stageAt, isInProgress, withVerdict}
 use Rattle.model.specs.State.{State}
 use Rattle.model.specs.Work.{early}
 use Rattle.model.specs.Sound.{isSound}
+use Rattle.model.specs.Start.{resetState}
 use Rattle.model.specs.Refusals.{firstOf, wrongLength, imageRefusals, entryRefusals}
 use Rattle.model.specs.Step.{event, step}
 use Rattle.model.specs.Outcome.{Outcome, stepOutcome}
 use Rattle.model.specs.declared.answer.Answer.the-variants.{Done, WrongLength, FlatMemory, Unsound}
 use Rattle.model.specs.declared.event.Call.{Call}
-use Rattle.model.specs.declared.event.Call.the-variants.{Write, Read, Work, Hardware, Condition, Sample, Lasting}
+use Rattle.model.specs.declared.event.Call.the-variants.{Write, Read, Work, Hardware, Condition, Sample, Lasting, Module, Line}
 use Rattle.model.specs.declared.lane.Verdict.{Verdict}
 use Rattle.model.specs.declared.lane.Verdict.the-variants.{Pass, Reject}
 use Rattle.model.specs.declared.lane.Progress.{Progress}
@@ -36,11 +37,14 @@ use Rattle.laws_sound.specs.Sound.{seenOf, Mate, Sound}
 use Rattle.laws_sound.proofs.Test.{test-sound}
 use Rattle.laws_sound.proofs.Stranger.{in-progress, groups-apart}
 use Rattle.laws_sound.proofs.Reached.{still-accepted, call-is-step}
+use Rattle.laws_frames.specs.Frames.{isReset}
+use Rattle.laws_frames.proofs.Stages.{idle-stage}
 use Rattle.laws_step.specs.Told.{stepOn, newlyMarked}
 use Rattle.laws_step.proofs.Frames.{unless}
 use Rattle.laws_step.proofs.Stepped.{not-refused, refused-step, work-on}
 use Rattle.laws_step.proofs.Reading.{read-keeps-records}
-use Rattle.laws_step.proofs.Writing.{write-keeps-record}
+use Rattle.laws_step.proofs.Writing.{write-resets, write-keeps-record}
+use Rattle.laws_step.proofs.Powering.{module-keeps-records, line-sets}
 use Rattle.laws_step.proofs.Working.{rejected-closes, copied-lane, passed-closes}
 use Rattle.laws_step.proofs.Moving.{hardware-keeps-records}
 use Rattle.laws_step.proofs.Sensing.{condition-keeps-records}
@@ -115,23 +119,33 @@ module _ (room : ℕ) (s : State) (bytes : List ℕ) (a : firstOf (entryRefusals
 
   -- ---- any call but a work step on a lane of the group
 
-  done-keeps : (c : Call) → stepOn room s c bytes .answer ≡ Done → isWorkOn (p .group) c ≡ false
-      → stageAt (stepOn room s c bytes .state .working) l ≡ stageAt (s .working) l
-  unfolding newlyMarked
-  done-keeps (Write address count) d f =
-      write-keeps-record room s bytes address count d l h (unless (λ t. clash (both-l _ _ t) (rw (in-progress i))))
-  done-keeps (Read address count) d f = ap (λ w. stageAt w l) (read-keeps-records room s bytes address count d)
-  done-keeps (Work m) d f = work-keeps m d f
-  done-keeps (Hardware m) d f = ap (λ w. stageAt w l) (hardware-keeps-records room s bytes m d)
-  done-keeps (Condition flag mask) d f = ap (λ w. stageAt w l) (condition-keeps-records room s bytes flag mask d)
-  done-keeps (Sample m power) d f = sampled-keeps-stages room s bytes m power d l h
-  done-keeps (Lasting flag on off) d f = lasting-keeps-stages room s bytes flag on off d l h
+  -- lane l keeps its stage, or a reset has made the whole group idle
+  Stays : State → Type 0
+  Stays z = (stageAt (z .working) l ≡ stageAt (s .working) l) ⊎ AllIdle (p .group) z
 
-  others-keep : (c : Call) → isWorkOn (p .group) c ≡ false → stageAt (stepOn room s c bytes .state .working) l ≡ stageAt (s .working) l
-  unfolding isDone
-  others-keep c f = split (isDone (stepOn room s c bytes .answer))
-      (λ t. done-keeps c (done-is _ t) f)
-      (λ t. rw (refused-step room s (event c bytes) (λ d. clash (ap isDone d) t)))
+  write-stays : (address count : ℕ) → stepOn room s (Write address count) bytes .answer ≡ Done → Stays (stepOn room s (Write address count) bytes .state)
+  unfolding Stays newlyMarked resetState
+  write-stays address count d = split (isReset bytes (Write address count))
+      (λ r. inr (λ m b e. ap (λ (z : State). stageAt (z .working) m) (write-resets room s bytes address count d r) ∙ idle-stage (s .working .line) m b))
+      (λ r. inl (write-keeps-record room s bytes address count d r l h (unless (λ t. clash (both-l _ _ t) (rw (in-progress i))))))
+
+  done-stays : (c : Call) → stepOn room s c bytes .answer ≡ Done → isWorkOn (p .group) c ≡ false → Stays (stepOn room s c bytes .state)
+  unfolding Stays
+  done-stays (Write address count) d f = write-stays address count d
+  done-stays (Read address count) d f = inl (ap (λ w. stageAt w l) (read-keeps-records room s bytes address count d))
+  done-stays (Work m) d f = inl (work-keeps m d f)
+  done-stays (Hardware m) d f = inl (ap (λ w. stageAt w l) (hardware-keeps-records room s bytes m d))
+  done-stays (Condition flag mask) d f = inl (ap (λ w. stageAt w l) (condition-keeps-records room s bytes flag mask d))
+  done-stays (Sample m power) d f = inl (sampled-keeps-stages room s bytes m power d l h)
+  done-stays (Lasting flag on off) d f = inl (lasting-keeps-stages room s bytes flag on off d l h)
+  done-stays Module d f = inl (ap (λ w. stageAt w l) (module-keeps-records room s bytes d))
+  done-stays (Line on) d f = inl (ap (λ w. stageAt w l) (line-sets room s bytes on d))
+
+  others-stay : (c : Call) → isWorkOn (p .group) c ≡ false → Stays (stepOn room s c bytes .state)
+  unfolding Stays isDone
+  others-stay c f = split (isDone (stepOn room s c bytes .answer))
+      (λ t. done-stays c (done-is _ t) f)
+      (λ t. inl (rw (refused-step room s (event c bytes) (λ d. clash (ap isDone d) t))))
 
   -- ---- a work step on a lane of the group
 
@@ -170,6 +184,8 @@ module _ (room : ℕ) (s : State) (bytes : List ℕ) (a : firstOf (entryRefusals
   works-move (Condition flag mask) f = absurd (clash f refl)
   works-move (Sample m power) f = absurd (clash f refl)
   works-move (Lasting flag on off) f = absurd (clash f refl)
+  works-move Module f = absurd (clash f refl)
+  works-move (Line on) f = absurd (clash f refl)
 
 -- ---- any calls
 
@@ -219,15 +235,14 @@ module _ (g l most : ℕ) (s : State) (h : l < laneCount) (a : firstOf (entryRef
   still-in : AllIn g s
   still-in = rw (G .group) at (all-in 0 s [] a l (G .its) h (G .stage))
 
-  goes-on : isWorkOn g (c .event .call) ≡ false → GoesOn g most l (outcomeAt s c .state)
+  goes-on : isWorkOn g (c .event .call) ≡ false → AllIdle g (outcomeAt s c .state) ⊎ GoesOn g most l (outcomeAt s c .state)
+  unfolding Stays
   goes-on w =
       let w′ : isWorkOn (G .its .group) (c .event .call) ≡ false = ap (λ z. isWorkOn z (c .event .call)) (G .group) ∙ w in
-      record {
-        its = G .its;
-        stage = rw (call-step s c a) (others-keep _ s (c .event .bytes) a l (G .its) h (G .stage) (c .event .call) w′) ∙ G .stage;
-        group = G .group;
-        left = G .left;
-      }
+      elim (others-stay (length (c .buffer)) s (c .event .bytes) a l (G .its) h (G .stage) (c .event .call) w′) [
+        | inl e ↦ inr (record { its = G .its; stage = rw (call-step s c a) e ∙ G .stage; group = G .group; left = G .left })
+        | inr d ↦ inl (rw (call-step s c a) (rw (G .group) at d))
+      ]
 
   moves-on : isWorkOn g (c .event .call) ≡ true → AllIdle g (outcomeAt s c .state) ⊎ ((k : ℕ) × (suc k ≤ most) × GoesOn g k l (outcomeAt s c .state))
   unfolding Moved
@@ -252,9 +267,12 @@ module _ (g l : ℕ) (h : l < laneCount) where
         | inr r ↦ later g most s c cs lanes (r .0) (rw (w, pick) (omega (arith, r .1)))
             (within cs (r .0) z next (r .2) (omega (arith, r .1, (rw (w, pick) at n))))
       ])
-      (λ w. later g most s c cs lanes most (rw (w, pick) (omega arith)) (within cs most z next (goes-on g l most s h a G c w) (omega (arith, (rw (w, pick) at n)))))
+      (λ w. elim (goes-on g l most s h a G c w) [
+        | inl d ↦ at-once g most s c cs lanes (omega (arith, some-left (G .its .verdict), G .left)) d
+        | inr r ↦ later g most s c cs lanes most (rw (w, pick) (omega arith)) (within cs most z next r (omega (arith, (rw (w, pick) at n))))
+      ])
 
--- on any state that is not refused with 1, 2 or 3, a group in progress closes after at most nine work steps on its lanes, whatever is called between them
+-- on any state that is not refused with 1, 2 or 3, a group in progress is idle after at most nine work steps on its lanes, whatever is called between them
 pub nine-steps : (s : State) (l : ℕ) (p : Progress) (cs : List Called) → firstOf (entryRefusals s) ≡ Done → l < laneCount
     → stageAt (s .working) l ≡ InProgress p → mostWorkSteps ≤ worksOn (p .group) cs → ClosesWithin (p .group) mostWorkSteps s cs
 nine-steps s l p cs a h i n =

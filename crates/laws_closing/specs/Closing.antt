@@ -10,7 +10,7 @@ use Rattle.bits.specs.Sets.{has, laneCount}
 use Rattle.model.specs.Records.{stageAt}
 use Rattle.model.specs.State.{State}
 use Rattle.model.specs.declared.event.Call.{Call}
-use Rattle.model.specs.declared.event.Call.the-variants.{Write, Read, Work, Hardware, Condition, Sample, Lasting}
+use Rattle.model.specs.declared.event.Call.the-variants.{Write, Read, Work, Hardware, Condition, Sample, Lasting, Module, Line}
 use Rattle.model.specs.declared.lane.Progress.{Progress}
 use Rattle.model.specs.declared.lane.Stage.{Stage}
 use Rattle.model.specs.declared.lane.Stage.the-variants.{Idle, InProgress}
@@ -29,6 +29,8 @@ isWorkOn g (Hardware l) = false
 isWorkOn g (Condition flag mask) = false
 isWorkOn g (Sample l p) = false
 isWorkOn g (Lasting flag on off) = false
+isWorkOn g Module = false
+isWorkOn g (Line on) = false
 
 -- how many of the calls are such work steps
 unfoldable pub worksOn : ℕ → List Called → ℕ
@@ -49,7 +51,7 @@ AllIn g s = (m : ℕ) → m < laneCount → has g m ≡ true → InGroup g (stag
 abbrev pub AllIdle : ℕ → State → Type 0
 AllIdle g s = (m : ℕ) → m < laneCount → has g m ≡ true → stageAt (s .working) m ≡ Idle
 
--- the group closes within a number of work steps: after some of the calls its lanes are idle, until then they are all in progress in that group, and
+-- the group closes, or is dropped by a reset, within a number of work steps: after some of the calls its lanes are idle, until then they are all in progress in that group, and
 -- of these calls at most so many are work steps on its lanes
 pub record ClosesWithin (g most : ℕ) (s : State) (cs : List Called) : Type 0 where
   pub calls : ℕ

@@ -13,9 +13,10 @@ use borrow.Author.Tests.{le-leb, lt-ltb}
 use Rattle.bits.proofs.Tests.{clash, both-i}
 use Rattle.bits.proofs.Loops.{each-skip}
 use Rattle.bits.proofs.Words.{length-put-word, word-byte-other}
-use Rattle.model.specs.Map.{Image, on, page11, stateAt, statusAt, pendingAt, settingAt, activeSet, flagAt, interruptBit, receivedPower, clearing, statusBytes, pendingByte, stateBytes, setLength, flagBytes, flagByteCount, lastingCount, lastingFlag}
+use Rattle.model.specs.Map.{Image, moduleState, moduleStateBits, moduleFlags, moduleChangedBit, on, page11, stateAt, statusAt, pendingAt, settingAt, activeSet, flagAt, interruptBit, receivedPower, clearing, statusBytes, pendingByte, stateBytes, setLength, flagBytes, flagByteCount, lastingCount, lastingFlag}
 use Rattle.model.specs.Registers.{withStatus, withPending, withPathState, withFlags}
 use Rattle.model.specs.Work.{withActive, copyLane}
+use Rattle.model.specs.Power.{moduleEnteredImage, moduleMovedImage, moduleImage}
 use Rattle.model.specs.Hardware.{enteredImage, movedImage, movedPathImage, hardwareImage}
 use Rattle.model.specs.Flags.{raisedImage, sampledImage, isRead, shownAgainImage, settledImage}
 use Rattle.model.specs.Pages.{withPage, pageStart, selectedImage}
@@ -124,6 +125,14 @@ pub shown-outside : (w : Working) (i n : ℕ) (x : Image) → SameOutside flagBy
 unfolding shownAgainImage
 shown-outside w i n x = each-outside flagBytes (flagBytes + flagByteCount) _ _ lastingCount x (λ k y b e.
     outside-wider flagBytes (flagBytes + flagByteCount) (omega arith) (omega arith) (flags-outside (lastingFlag k) _ y))
+
+-- ---- the module event: lower 3, and lower 8
+
+pub module-outside : (line : Bool) (x : Image) → SameOutside moduleState (moduleFlags + 1) x (moduleImage line x)
+unfolding moduleImage moduleMovedImage moduleEnteredImage
+module-outside line x = only-outside moduleState (moduleFlags + 1) _ _ x
+    (outside-trans (put-outside moduleState (moduleFlags + 1) x moduleStateBits _ (omega arith) (omega arith))
+    (only-outside moduleState (moduleFlags + 1) _ _ _ (put-outside moduleState (moduleFlags + 1) _ moduleChangedBit 1 (omega arith) (omega arith))))
 
 -- ---- a hardware event: states, DPStateChanged and pending bits
 

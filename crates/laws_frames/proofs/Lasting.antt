@@ -1,5 +1,5 @@
 -- What is on after each event: a lasting condition and a sample change it, and nothing else does. What a read shows of it. Assumes nothing.
-use mathlib.Core.Path.{_≡_, refl, _∙_}
+use mathlib.Core.Path.{_≡_, refl, ap, _∙_}
 use mathlib.Core.Bool.{true, false}
 use mathlib.Core.List.{List, [], _∷_}
 use mathlib.Core.Logic.{inl, inr, _≢_}
@@ -8,10 +8,11 @@ use native.Mathlib.Decide.{decLt}
 use native.Mathlib.Omega.{arith}
 use lib.Dec.{eqb, ltb}
 use lib.ListN.{length, getD, take}
+use Rattle.bits.specs.Choice.{pick}
 use Rattle.bits.specs.Loop.{each}
 use Rattle.bits.specs.Place.{get}
 use Rattle.bits.specs.Sets.{has}
-use Rattle.bits.proofs.Tests.{clash, pick-has}
+use Rattle.bits.proofs.Tests.{split, clash, pick-has}
 use Rattle.bits.proofs.Loops.{each-skip, each-hit}
 use Rattle.bits.proofs.Masks.{has-mask, mask-lt}
 use Rattle.model.specs.Map.{Image, imageLength, on, page11, pageSelect, applyDPInit, applyImmediate, stagedSet0, flagAt, lastingCount, lastingFlag, writable}
@@ -23,7 +24,8 @@ use Rattle.model.specs.Effect.{Effect}
 use Rattle.model.specs.Triggers.{stageAfter, markedState, isIgnored, triggeredState}
 use Rattle.model.specs.Work.{Mode, closedState, closingEffect, copiedState, workEffectBy, workEffectOn, workEffect}
 use Rattle.model.specs.Flags.{lastingState, sampledState, isRead, shownAgainImage}
-use Rattle.model.specs.Access.{storedState, byteWrittenState, bytesWrittenState, endedState}
+use Rattle.model.specs.Access.{storedState, byteWrittenState, bytesWrittenState, resets, endedState}
+use Rattle.model.specs.Start.{resetState}
 use Rattle.model.specs.Step.{readEffect, eventEffect}
 use Rattle.model.specs.declared.lane.Trigger.{Trigger}
 use Rattle.model.specs.declared.lane.Trigger.the-variants.{DpInit, Immediate}
@@ -32,34 +34,34 @@ use Rattle.model.specs.declared.lane.Verdict.the-variants.{Pass, Reject}
 use Rattle.model.specs.declared.lane.Stage.{Stage}
 use Rattle.model.specs.declared.lane.Stage.the-variants.{Idle, InProgress}
 use Rattle.model.specs.declared.event.Call.{Call}
-use Rattle.model.specs.declared.event.Call.the-variants.{Write, Read, Work, Hardware, Condition, Sample, Lasting}
+use Rattle.model.specs.declared.event.Call.the-variants.{Write, Read, Work, Hardware, Condition, Sample, Lasting, Module, Line}
 use Rattle.model.specs.declared.lane.Working.{Working}
-use Rattle.laws_frames.specs.Frames.{Beside, onAfter}
+use Rattle.laws_frames.specs.Frames.{Beside, isReset, onAfter}
 use Rattle.laws_frames.proofs.Outside.{get-same}
 use Rattle.laws_frames.proofs.Registers.{lane-from, lane-to}
 use Rattle.laws_frames.proofs.Changes.{flags-outside}
 use Rattle.laws_frames.proofs.Back.{flag-in, flags-alone}
-use Rattle.laws_frames.proofs.Stages.{on-in, on-kept}
+use Rattle.laws_frames.proofs.Stages.{idle-on, on-in, on-kept}
 
 module _ (l : ℕ) (h : l < 8) where
   -- what is on for lane l is as it was in the state s
-  Kept : State → State → Type 0
+  abbrev Kept : State → State → Type 0
   Kept s t = onAt (t .working) l ≡ onAt (s .working) l
 
   triggered-on : (t : Trigger) (base selected : ℕ) (s : State) → Kept s (triggeredState t base s selected)
-  unfolding Kept triggeredState markedState
+  unfolding triggeredState markedState
   triggered-on t base selected s = pick-has (Kept s) (isIgnored t (s .image)) (λ e. refl) (λ e. on-kept (s .working) (stageAfter t (viewOf base (s .image)) (s .working) selected) l h)
 
   stored-on : (i v : ℕ) (s : State) → Kept s (storedState i v s)
-  unfolding Kept storedState
+  unfolding storedState
   stored-on i v s =
       pick-has (Kept s) (eqb i pageSelect) (λ e. refl)
       (λ e. pick-has (Kept s) (eqb i applyDPInit) (λ e. triggered-on DpInit stagedSet0 v s)
       (λ e. pick-has (Kept s) (eqb i applyImmediate) (λ e. triggered-on Immediate stagedSet0 v s)
       (λ e. pick-has (Kept s) (writable i) (λ e. refl) (λ e. refl))))
 
-  bytes-on : (address : ℕ) (vs : List ℕ) (s : State) → Kept s (bytesWrittenState address vs s)
-  unfolding Kept bytesWrittenState byteWrittenState
+  pub bytes-on : (address : ℕ) (vs : List ℕ) (s : State) → Kept s (bytesWrittenState address vs s)
+  unfolding bytesWrittenState byteWrittenState
   bytes-on address [] s = refl
   bytes-on address (v ∷ vs) s = bytes-on (suc address) vs _ ∙ stored-on _ v s
 
@@ -68,25 +70,33 @@ module _ (l : ℕ) (h : l < 8) where
   closed-on s g = on-kept (s .working) _ l h
 
   by-on : (v : Verdict) (mode : Mode) (s : State) (g : ℕ) (t : Trigger) → Kept s (workEffectBy v mode s g t .state)
-  unfolding Kept workEffectBy closedState closingEffect copiedState advancedWorking
+  unfolding workEffectBy closedState closingEffect copiedState advancedWorking
   by-on (Reject code) mode s g t = closed-on s g
   by-on (Pass n) mode s g t = pick-has (λ (c : Effect). Kept s (c .state)) (ltb n 8) (λ e. on-kept (s .working) _ l h) (λ e. closed-on s g)
 
   on-on : (t : Stage) (mode : Mode) (s : State) → Kept s (workEffectOn t mode s .state)
-  unfolding Kept workEffectOn
+  unfolding workEffectOn
   on-on Idle mode s = refl
   on-on (InProgress p) mode s = by-on (p .verdict) mode s (p .group) (p .trigger)
 
+  ended-on : (address : ℕ) (bytes : List ℕ) (n : ℕ) (s : State) → onAt (endedState address bytes n s .working) l ≡ pick (resets address bytes n) 0 (onAt (s .working) l)
+  unfolding endedState resetState pick
+  ended-on address bytes n s = split (resets address bytes n)
+      (λ e. rw (e, pick) (idle-on (s .working .line) l h))
+      (λ e. rw (e, pick))
+
   -- THE LAW: what every event that is carried out leaves of what is on
-  pub event-on : (mode : Mode) (s : State) (bytes : List ℕ) (c : Call) → onAt (eventEffect mode s bytes c .state .working) l ≡ onAfter s c l
-  unfolding eventEffect readEffect workEffect endedState sampledState lastingState onAfter Kept
-  event-on mode s bytes (Write address count) = bytes-on address (take count bytes) s
+  pub event-on : (mode : Mode) (s : State) (bytes : List ℕ) (c : Call) → onAt (eventEffect mode s bytes c .state .working) l ≡ onAfter s bytes c l
+  unfolding eventEffect readEffect workEffect sampledState lastingState isReset onAfter
+  event-on mode s bytes (Write address count) = ended-on address (take count bytes) count (bytesWrittenState address (take count bytes) s) ∙ ap (pick _ 0) (bytes-on address (take count bytes) s)
   event-on mode s bytes (Read address count) = refl
   event-on mode s bytes (Work m) = on-on (stageAt (s .working) m) mode s
   event-on mode s bytes (Hardware m) = refl
   event-on mode s bytes (Condition flag mask) = refl
   event-on mode s bytes (Sample m p) = on-in (s .working) _ l h
   event-on mode s bytes (Lasting flag on off) = on-in (s .working) _ l h
+  event-on mode s bytes Module = refl
+  event-on mode s bytes (Line on) = refl
 
 -- ---- what a read shows again
 

@@ -7,4 +7,5 @@ pub mod Back
 pub mod Stages
 pub mod Lasting
 pub mod Commands
+pub mod Writes
 pub mod Starting

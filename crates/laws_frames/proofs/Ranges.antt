@@ -3,13 +3,15 @@ use mathlib.Core.Path.{_≡_, refl}
 use mathlib.Core.Bool.{Bool, true, false}
 use mathlib.Core.List.{List, [], _∷_}
 use mathlib.Core.Logic.{inl, inr}
-use Prim.Native.Nat.{ℕ, _≤_, _<_}
+use Prim.Native.Nat.{ℕ, suc, _≤_, _<_}
+use native.Mathlib.Decide.{decLt}
 use native.Mathlib.Omega.{arith}
 use lib.Dec.{leb, ltb}
 use borrow.Author.Tests.{leb-true, ltb-true, le-leb}
 use Rattle.bits.specs.Choice.{both, either}
-use Rattle.bits.proofs.Tests.{clash, both-l, both-r, both-i, either-cases, either-i-l, either-i-r}
+use Rattle.bits.proofs.Tests.{split, clash, both-l, both-r, both-i, either-cases, either-i-l, either-i-r}
 use Rattle.model.specs.Map.{Range, range, inRanges}
+use Rattle.laws_frames.specs.Frames.{Beside}
 
 -- ---- one range
 
@@ -71,3 +73,24 @@ ranges-in fs (r ∷ rs) i e h = elim (either-cases _ _ h) [
 -- .. and where that is one range, a byte in the list lies between its ends
 pub spanned : (lo hi : ℕ) (rs : List Range) (i : ℕ) → allCovered (range lo hi ∷ []) rs ≡ true → inRanges rs i ≡ true → (lo ≤ i) × (i ≤ hi)
 spanned lo hi rs i e h = of-range lo hi i (ranges-in (range lo hi ∷ []) rs i e h)
+
+-- every range of a list lies apart from every range of another
+unfoldable pub allApart : List Range → List Range → Bool
+allApart [] rs = true
+allApart (q ∷ qs) rs = both (apartFrom (q .from) (suc (q .to)) rs) (allApart qs rs)
+
+pub ranges-apart : (qs rs : List Range) (i : ℕ) → allApart qs rs ≡ true → inRanges qs i ≡ true → inRanges rs i ≡ false
+unfolding inRanges allApart
+ranges-apart [] rs i e h = absurd (clash h refl)
+ranges-apart (q ∷ qs) rs i e h = elim (either-cases _ _ h) [
+  | inl t ↦ let r = between (q .from) i (q .to) t in
+      split (inRanges rs i) (λ u. absurd (not-in (q .from) (suc (q .to)) rs i (both-l _ _ e) (r .0) (omega arith) u)) (λ u. u)
+  | inr t ↦ ranges-apart qs rs i (both-r _ _ e) t
+]
+
+-- a byte that is not in a range lies beside it
+pub beside-range : (from to i : ℕ) → both (leb from i) (leb i to) ≡ false → Beside from (suc to) i
+beside-range from to i e = elim (decLt i from) [
+  | yes h ↦ inl h
+  | no h ↦ elim (decLt to i) [ yes k ↦ inr (omega arith) | no k ↦ absurd (clash (inside from i to (omega arith) (omega arith)) e) ]
+]

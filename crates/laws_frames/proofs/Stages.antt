@@ -1,22 +1,22 @@
 -- The lanes' stages, and what is on, after a change of the working state. Assumes nothing.
 use mathlib.Core.Path.{_≡_, ap, _∙_}
-use mathlib.Core.Bool.{true, false}
+use mathlib.Core.Bool.{Bool, true, false}
 use Prim.Native.Nat.{ℕ, _<_}
 use Rattle.bits.specs.Sets.{has}
 use Rattle.bits.proofs.Tests.{pick-true, pick-false}
 use Rattle.bits.proofs.Loops.{tab-at}
-use Rattle.model.specs.Records.{idleRecord, idleWorking, recordAt, stageAt, onAt, withStage, withStages, withOn, withOns, withVerdict, freedWorking, advancedWorking}
+use Rattle.model.specs.Records.{idleRecord, idleWith, recordAt, stageAt, onAt, withStage, withStages, withOn, withOns, withVerdict, freedWorking, advancedWorking}
 use Rattle.model.specs.declared.lane.Verdict.the-variants.{Pass}
 use Rattle.model.specs.declared.lane.Stage.{Stage}
 use Rattle.model.specs.declared.lane.Stage.the-variants.{Idle}
 use Rattle.model.specs.declared.lane.LaneRecord.{LaneRecord}
 use Rattle.model.specs.declared.lane.Working.{Working}
 
-pub idle-stage : (l : ℕ) → l < 8 → stageAt idleWorking l ≡ Idle
-idle-stage l b = ap (λ (r : LaneRecord). r .stage) (tab-at 8 (λ k. idleRecord) l idleRecord b)
+pub idle-stage : (line : Bool) (l : ℕ) → l < 8 → stageAt (idleWith line) l ≡ Idle
+idle-stage line l b = ap (λ (r : LaneRecord). r .stage) (tab-at 8 (λ k. idleRecord) l idleRecord b)
 
-pub idle-on : (l : ℕ) → l < 8 → onAt idleWorking l ≡ 0
-idle-on l b = ap (λ (r : LaneRecord). r .on) (tab-at 8 (λ k. idleRecord) l idleRecord b)
+pub idle-on : (line : Bool) (l : ℕ) → l < 8 → onAt (idleWith line) l ≡ 0
+idle-on line l b = ap (λ (r : LaneRecord). r .on) (tab-at 8 (λ k. idleRecord) l idleRecord b)
 
 module _ (w : Working) where
   pub stage-in : (f : ℕ → Stage) (l : ℕ) → l < 8 → stageAt (withStages w f) l ≡ f l

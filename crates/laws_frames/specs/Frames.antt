@@ -3,19 +3,21 @@ use mathlib.Core.Path.{_≡_}
 use mathlib.Core.List.{List}
 use mathlib.Core.Logic.{_⊎_, _≢_}
 use Prim.Native.Nat.{ℕ, _+_, _^_, _≤_, _<_}
-use lib.ListN.{length, getD}
+use mathlib.Core.Bool.{Bool, false}
+use lib.ListN.{length, getD, take}
 use lib.Dec.{eqb}
 use Rattle.bits.specs.Choice.{pick}
 use Rattle.bits.specs.Sets.{Lane}
-use Rattle.model.specs.Numbers.{Byte, Index, OnBits}
+use Rattle.model.specs.Numbers.{Byte, Bytes, Index, OnBits}
 use Rattle.model.specs.Map.{Image, imageLength, lastingIndex, moduleFlags, commandStatus, replyLength, page10, stateBytes, statusBytes, pendingByte, flagBytes, settingCount, settingWidths}
 use Rattle.model.specs.Records.{onAt}
 use Rattle.model.specs.State.{State}
 use Rattle.model.specs.Flags.{conditionOn, sampledOn}
+use Rattle.model.specs.Access.{resets}
 use Rattle.model.specs.View.{settingValues}
 use Rattle.model.specs.declared.lane.Settings.{Settings}
 use Rattle.model.specs.declared.event.Call.{Call}
-use Rattle.model.specs.declared.event.Call.the-variants.{Write, Read, Work, Hardware, Condition, Sample, Lasting}
+use Rattle.model.specs.declared.event.Call.the-variants.{Write, Read, Work, Hardware, Condition, Sample, Lasting, Module, Line}
 
 -- ---- ranges of bytes
 
@@ -74,14 +76,31 @@ Fits h = (k : ℕ) → k < settingCount → getD (settingValues h) k 0 < 2 ^ get
 abbrev pub OtherLane : Lane → Lane → Type 0
 OtherLane l m = m ≢ l
 
+-- ---- resets
+
+-- an event that resets the module, unless it is refused: a write that asks for it
+unfoldable pub isReset : Bytes → Call → Bool
+isReset bytes (Write address count) = resets address (take count bytes) count
+isReset bytes (Read address count) = false
+isReset bytes (Work m) = false
+isReset bytes (Hardware m) = false
+isReset bytes (Condition flag mask) = false
+isReset bytes (Sample m p) = false
+isReset bytes (Lasting flag on off) = false
+isReset bytes Module = false
+isReset bytes (Line on) = false
+
 -- ---- what is on
 
--- what is on for a lane after an event that is carried out: a sample of the lane and a lasting condition have their say, and every other event leaves it
-unfoldable pub onAfter : State → Call → Lane → OnBits
-onAfter s (Write address count) l = onAt (s .working) l
-onAfter s (Read address count) l = onAt (s .working) l
-onAfter s (Work m) l = onAt (s .working) l
-onAfter s (Hardware m) l = onAt (s .working) l
-onAfter s (Condition flag mask) l = onAt (s .working) l
-onAfter s (Sample m p) l = pick (eqb m l) (sampledOn (s .image) p (onAt (s .working) l)) (onAt (s .working) l)
-onAfter s (Lasting flag on off) l = conditionOn (lastingIndex flag) on off l (onAt (s .working) l)
+-- what is on for a lane after an event that is carried out: a reset ends it, a sample of the lane and a lasting condition have their say, and every other event
+-- leaves it
+unfoldable pub onAfter : State → Bytes → Call → Lane → OnBits
+onAfter s bytes (Write address count) l = pick (isReset bytes (Write address count)) 0 (onAt (s .working) l)
+onAfter s bytes (Read address count) l = onAt (s .working) l
+onAfter s bytes (Work m) l = onAt (s .working) l
+onAfter s bytes (Hardware m) l = onAt (s .working) l
+onAfter s bytes (Condition flag mask) l = onAt (s .working) l
+onAfter s bytes (Sample m p) l = pick (eqb m l) (sampledOn (s .image) p (onAt (s .working) l)) (onAt (s .working) l)
+onAfter s bytes (Lasting flag on off) l = conditionOn (lastingIndex flag) on off l (onAt (s .working) l)
+onAfter s bytes Module l = onAt (s .working) l
+onAfter s bytes (Line on) l = onAt (s .working) l

@@ -3,39 +3,38 @@ use mathlib.Core.Path.{_≡_, refl, sym, _∙_}
 use mathlib.Core.Bool.{Bool, true, false, not}
 use mathlib.Core.List.{List, [], _∷_}
 use mathlib.Core.Logic.{_⊎_, inl, inr}
-use Prim.Native.Nat.{ℕ, suc, _+_, _*_, _≤_, _<_}
+use Prim.Native.Nat.{ℕ, _+_, _-_, _*_, _<_}
 use native.Mathlib.Decide.{ℕ-discrete}
 use native.Mathlib.Omega.{arith}
 use lib.Dec.{eqb, ltb}
-use lib.ListN.{length, set, take}
-use lib.Seq.{getD-set-other}
-use borrow.Author.Tests.{eqb-true, ltb-true, not-false}
+use lib.ListN.{length, take}
+use borrow.Author.Tests.{eqb-true, ltb-true, le-leb, not-false}
 use Rattle.bits.specs.Choice.{pick, onlyIf, both, either}
 use Rattle.bits.specs.Place.{get}
 use Rattle.bits.specs.Sets.{has}
 use Rattle.bits.specs.Word.{putWord}
-use Rattle.bits.proofs.Tests.{split, clash, both-l, either-cases, pick-true, pick-false, pick-has}
+use Rattle.bits.proofs.Tests.{split, clash, both-l, both-i, either-cases, either-i-l, pick-true, pick-false, pick-has}
 use Rattle.bits.proofs.Sets.{has-zero}
 use Rattle.bits.proofs.Number.{stays}
 use Rattle.bits.proofs.Words.{length-put-word, word-byte-other}
-use Rattle.model.specs.Map.{Image, imageLength, on, page11, flagAt, lastingCount, lastingFlag, lastingIndex, highAlarmFlag, lowAlarmFlag, highWarningFlag, lowWarningFlag, receivedPower, writableRanges, writable, pageSelect, applyDPInit, applyImmediate, stagedSet0}
+use Rattle.model.specs.Map.{Image, imageLength, range, inRanges, on, page11, flagAt, lastingCount, lastingFlag, lastingIndex, highAlarmFlag, lowAlarmFlag, highWarningFlag, lowWarningFlag, receivedPower}
 use Rattle.model.specs.Answers.{isDone}
-use Rattle.model.specs.Records.{stageAt, onAt, withFlagOn}
-use Rattle.model.specs.State.{State, withImage}
+use Rattle.model.specs.Records.{idleWith, stageAt, onAt, withLine, withFlagOn}
+use Rattle.model.specs.State.{State, stateWith, withImage}
 use Rattle.model.specs.Effect.{Effect}
 use Rattle.model.specs.Registers.{withStatus}
-use Rattle.model.specs.Triggers.{isIgnored, markedState, triggeredState}
 use Rattle.model.specs.Work.{early, copyNext, copyGroup, pendingAfter, closedState, closingEffect, copiedState, workEffectBy, workEffectOn, workEffect}
 use Rattle.model.specs.Flags.{isConditionFlag, conditionImage, conditionOn, lastingState, aboveAlarm, belowAlarm, aboveWarning, raisedImage, sampledImage, sampledOn, sampledState, isRead, settledImage}
+use Rattle.model.specs.Power.{holdsDown, moduleImage}
 use Rattle.model.specs.Hardware.{hardwareImage}
 use Rattle.model.specs.Pages.{indexOf}
 use Rattle.model.specs.Commands.{commandImage}
-use Rattle.model.specs.Access.{storedState, byteWrittenState, bytesWrittenState, runsCommand, endedState, clearedImage}
-use Rattle.model.specs.Start.{startedState}
+use Rattle.model.specs.Access.{bytesWrittenState, runsCommand, resets, endedState, clearedImage}
+use Rattle.model.specs.Start.{startedState, resetState}
 use Rattle.model.specs.Refusals.{firstOf, eventRefusals}
 use Rattle.model.specs.Step.{readEffect, eventEffect, doneStep, refusedStep, answeredStep, step}
 use Rattle.model.specs.declared.event.Call.{Call}
-use Rattle.model.specs.declared.event.Call.the-variants.{Write, Read, Work, Hardware, Condition, Sample, Lasting}
+use Rattle.model.specs.declared.event.Call.the-variants.{Write, Read, Work, Hardware, Condition, Sample, Lasting, Module, Line}
 use Rattle.model.specs.declared.event.Event.{Event}
 use Rattle.model.specs.declared.lane.Trigger.{Trigger}
 use Rattle.model.specs.declared.lane.Trigger.the-variants.{DpInit, Immediate}
@@ -45,14 +44,15 @@ use Rattle.model.specs.declared.lane.Stage.{Stage}
 use Rattle.model.specs.declared.lane.Stage.the-variants.{Idle, InProgress}
 use Rattle.model.proofs.Lasting.{condition-among, flag-now, flag-other}
 use Rattle.laws_frames.specs.Frames.{SameWithin, onAfter}
-use Rattle.laws_frames.proofs.Ranges.{apartFrom, not-in}
+use Rattle.laws_frames.proofs.Ranges.{apartFrom, allApart, ranges-apart}
+use Rattle.laws_frames.proofs.Writes.{writtenRanges, bytes-off}
 use Rattle.laws_frames.proofs.Outside.{get-same, get-within, below-range, above-range}
 use Rattle.laws_frames.proofs.Registers.{lane-from, lane-to}
-use Rattle.laws_frames.proofs.Changes.{status-outside, pending-outside, copy-outside, settled-outside, selected-outside, cleared-unread, cleared-length, hardware-off}
+use Rattle.laws_frames.proofs.Changes.{status-outside, pending-outside, copy-outside, settled-outside, cleared-unread, cleared-length, module-outside, hardware-off}
 use Rattle.laws_frames.proofs.Back.{flag-in, flag-stays, raised-stays, raised-in, raised-length}
 use Rattle.laws_frames.proofs.Commands.{command-off}
 use Rattle.laws_frames.proofs.Stages.{idle-on, on-in}
-use Rattle.laws_frames.proofs.Lasting.{event-on, lastingAt, flag-byte, shown-unread, shown-on}
+use Rattle.laws_frames.proofs.Lasting.{bytes-on, event-on, lastingAt, flag-byte, shown-unread, shown-on}
 use Rattle.laws_sound.specs.Sound.{OnFits, AllOnFit}
 use Rattle.laws_sound.proofs.Steps.{not-refused, a-lane}
 
@@ -94,33 +94,10 @@ with-fits x l bits k test h O f = record {
 
 -- ---- events that change neither what is on nor its flags
 
-writable-off : (i : ℕ) → lastingFrom ≤ i → i < lastingEnd → writable i ≡ true → ⊥
-unfolding writable apartFrom both either
-writable-off i a b = not-in lastingFrom lastingEnd writableRanges i refl a b
-
-set-same : (s : State) (i v : ℕ) → writable i ≡ true → SameLasting s (withImage s (set (s .image) i v))
-set-same s i v e j a b = elim (ℕ-discrete j i) [
-  | yes q ↦ absurd (writable-off i (omega arith) (omega arith) e)
-  | no q ↦ getD-set-other (s .image) i j v 0 q
-]
-
-triggered-same : (t : Trigger) (base selected : ℕ) (s : State) → SameLasting s (triggeredState t base s selected)
-unfolding triggeredState markedState
-triggered-same t base selected s = pick-has (SameLasting s) (isIgnored t (s .image)) (λ e i a b. refl)
-    (λ e. below-range lastingFrom lastingEnd (omega arith) (status-outside _ _ (s .image)))
-
-stored-same : (i v : ℕ) (s : State) → SameLasting s (storedState i v s)
-unfolding storedState
-stored-same i v s =
-    pick-has (SameLasting s) (eqb i pageSelect) (λ e. above-range lastingFrom lastingEnd (omega arith) (selected-outside v (s .image)))
-    (λ e. pick-has (SameLasting s) (eqb i applyDPInit) (λ e. triggered-same DpInit stagedSet0 v s)
-    (λ e. pick-has (SameLasting s) (eqb i applyImmediate) (λ e. triggered-same Immediate stagedSet0 v s)
-    (λ e. pick-has (SameLasting s) (writable i) (λ e. set-same s i v e) (λ e j a b. refl))))
-
 bytes-same : (address : ℕ) (vs : List ℕ) (s : State) → SameLasting s (bytesWrittenState address vs s)
-unfolding bytesWrittenState byteWrittenState
-bytes-same address [] s i a b = refl
-bytes-same address (v ∷ vs) s i a b = bytes-same (suc address) vs (storedState (indexOf (s .image) address) v s) i a b ∙ stored-same _ v s i a b
+unfolding allApart apartFrom inRanges both either
+bytes-same address vs s i a b =
+    bytes-off i (ranges-apart (range lastingFrom (lastingEnd - 1) ∷ []) writtenRanges i refl (either-i-l _ _ (both-i (le-leb lastingFrom i a) (le-leb i (lastingEnd - 1) (omega arith))))) address vs s
 
 only-same : (t : Bool) (s : State) → SameLasting s (withImage s (onlyIf t commandImage (s .image)))
 unfolding onlyIf
@@ -263,22 +240,37 @@ sampled-fit s O l p h size m b =
 
 -- ---- every event
 
+-- ---- a write, which may end in a reset
+
+-- nothing is on
+idle-fit : (x : Image) (line : Bool) → AllOnFit (stateWith x (idleWith line))
+idle-fit x line l b = rw (idle-on line l b) (record { few = omega arith; shows = λ k h t. absurd (clash t (has-zero k)) })
+
+ended-fit : (s : State) → AllOnFit s → (address : ℕ) (bytes : List ℕ) (n : ℕ) → AllOnFit (endedState address bytes n (bytesWrittenState address bytes s))
+unfolding endedState resetState
+ended-fit s O address bytes n =
+    let stored = bytesWrittenState address bytes s in
+    pick-has AllOnFit (resets address bytes n) (λ e. idle-fit (startedState (stored .image) .image) (stored .working .line))
+    (λ e. same-fit s O (withImage stored (onlyIf (runsCommand address n (stored .image)) commandImage (stored .image))) (λ l b. bytes-on l b address bytes s)
+    (λ i a b. only-same (runsCommand address n (stored .image)) stored i a b ∙ bytes-same address bytes s i a b))
+
 carried-fit : (room : ℕ) (s : State) (bytes : List ℕ) (c : Call) → length (s .image) ≡ imageLength → isDone (firstOf (eventRefusals room s c)) ≡ true
     → AllOnFit s → AllOnFit (eventEffect early s bytes c .state)
-unfolding eventEffect eventRefusals isDone endedState workEffect onAfter
-carried-fit room s bytes (Write address count) size d O =
-    let stored = bytesWrittenState address (take count bytes) s in
-    same-fit s O (eventEffect early s bytes (Write address count) .state) (λ l b. event-on l b early s bytes (Write address count))
-    (λ i a b. only-same (runsCommand address count (stored .image)) stored i a b ∙ bytes-same address (take count bytes) s i a b)
+unfolding eventEffect eventRefusals isDone workEffect onAfter
+carried-fit room s bytes (Write address count) size d O = ended-fit s O address (take count bytes) count
 carried-fit room s bytes (Read address count) size d O = read-fit s O (indexOf (s .image) address) count size
 carried-fit room s bytes (Work l) size d O =
     same-fit s O (eventEffect early s bytes (Work l) .state) (λ m b. event-on m b early s bytes (Work l)) (on-same (stageAt (s .working) l) s)
 carried-fit room s bytes (Hardware l) size d O =
-    same-fit s O (withImage s (hardwareImage false (s .image) l)) (λ m b. refl)
-    (λ i a b. hardware-off false (s .image) l .byte i (inr (omega arith)) (inr (omega arith)) (inl (omega arith)))
+    same-fit s O (withImage s (hardwareImage (holdsDown (s .working .line) (s .image)) (s .image) l)) (λ m b. refl)
+    (λ i a b. hardware-off _ (s .image) l .byte i (inr (omega arith)) (inr (omega arith)) (inl (omega arith)))
 carried-fit room s bytes (Condition flag mask) size d O = raised-fit s O flag (not-false _ (not-refused _ _ refl d .0)) size mask
 carried-fit room s bytes (Sample l p) size d O = sampled-fit s O l p (a-lane l (not-refused _ _ refl d .0)) size
 carried-fit room s bytes (Lasting flag on off) size d O = lasting-fit s O flag (not-false _ (not-refused _ _ refl d .0)) size on off
+carried-fit room s bytes Module size d O =
+    same-fit s O (withImage s (moduleImage (s .working .line) (s .image))) (λ m b. refl)
+    (above-range lastingFrom lastingEnd (omega arith) (module-outside (s .working .line) (s .image)))
+carried-fit room s bytes (Line on) size d O = same-fit s O (stateWith (s .image) (withLine (s .working) on)) (λ m b. refl) (λ i a b. refl)
 
 pub step-fit : (room : ℕ) (s : State) (e : Event) → length (s .image) ≡ imageLength → AllOnFit s → AllOnFit (step early room s e .state)
 unfolding step answeredStep doneStep refusedStep
@@ -292,7 +284,4 @@ step-fit room s e size O = split (isDone (firstOf (eventRefusals room s (e .call
 -- start: nothing is on
 pub start-fit : (x : Image) → AllOnFit (startedState x)
 unfolding startedState
-start-fit x l b = rw (idle-on l b) (record {
-  few = omega arith;
-  shows = λ k h t. absurd (clash t (has-zero k));
-})
+start-fit x = idle-fit (startedState x .image) false

@@ -20,7 +20,7 @@ use Rattle.model.specs.Step.{step, run, ending}
 use Rattle.model.specs.Outcome.{laidOver, stepOutcome, listRoom, numbersOf, listOutcomeBy, listOutcome}
 use Rattle.model.specs.declared.answer.Answer.the-variants.{Done}
 use Rattle.model.specs.declared.event.Call.{Call}
-use Rattle.model.specs.declared.event.Call.the-variants.{Write, Read, Work, Hardware, Condition, Sample, Lasting}
+use Rattle.model.specs.declared.event.Call.the-variants.{Write, Read, Work, Hardware, Condition, Sample, Lasting, Module, Line}
 use Rattle.model.specs.declared.event.Event.{Event}
 use Rattle.laws.specs.Calls.{Called, outcomes, stateAfter}
 use Rattle.laws.proofs.Answered.{list-answer}
@@ -61,6 +61,8 @@ same-refusals room s (Hardware l) n = refl
 same-refusals room s (Condition flag mask) n = refl
 same-refusals room s (Sample l p) n = refl
 same-refusals room s (Lasting flag on off) n = refl
+same-refusals room s Module n = refl
+same-refusals room s (Line on) n = refl
 
 pub same-step : (room : ℕ) (s : State) (e : Event) → listRoom ≤ room → step early room s e ≡ step early listRoom s e
 unfolding step

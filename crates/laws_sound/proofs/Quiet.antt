@@ -1,6 +1,6 @@
 -- Changes of bytes that soundness does not look at; and the invariant that events keep. Assumes nothing.
 use mathlib.Core.Path.{_≡_, refl, _∙_}
-use mathlib.Core.Bool.{true}
+use mathlib.Core.Bool.{Bool, true}
 use mathlib.Core.List.{List, [], _∷_}
 use mathlib.Core.Logic.{inl, inr}
 use Prim.Native.Nat.{ℕ, suc, _+_, _-_, _≤_, _<_}
@@ -10,9 +10,10 @@ use lib.ListN.{length, getD, set}
 use Rattle.bits.specs.Choice.{both, either}
 use Rattle.bits.specs.Place.{get}
 use Rattle.bits.proofs.Tests.{split, clash, either-cases}
-use Rattle.model.specs.Map.{Image, Range, range, rangeOn, on, page11, inRanges, writableRanges, writable, clearedRanges, clearing, activeSet, statusAt, pendingAt, imageLength, stateBytes, statusBytes, page10, page9F, flagBytes, flagByteCount, moduleFlags, commandStatus, replyLength}
+use Rattle.model.specs.Map.{Image, moduleState, Range, range, rangeOn, on, page11, inRanges, writableRanges, writable, clearedRanges, clearing, activeSet, statusAt, pendingAt, imageLength, stateBytes, statusBytes, page10, page9F, flagBytes, flagByteCount, moduleFlags, commandStatus, replyLength}
 use Rattle.model.specs.Records.{stageAt}
 use Rattle.model.specs.State.{State}
+use Rattle.model.specs.Power.{moduleImage}
 use Rattle.model.specs.Flags.{isConditionFlag, conditionImage, sampledImage, shownAgainImage, settledImage}
 use Rattle.model.specs.Pages.{selectedImage}
 use Rattle.model.specs.Access.{clearedImage}
@@ -21,7 +22,7 @@ use Rattle.model.specs.declared.lane.Working.{Working}
 use Rattle.laws_frames.proofs.Ranges.{between, apartFrom, not-in, coveredBy, covered-in, allCovered, ranges-in}
 use Rattle.laws_frames.proofs.Outside.{set-outside}
 use Rattle.laws_frames.proofs.Registers.{settings-same, states-same, applications-same, status-same, pending-same}
-use Rattle.laws_frames.proofs.Changes.{settled-outside, sampled-outside, flags-outside, selected-outside, cleared-byte, cleared-length, shown-outside}
+use Rattle.laws_frames.proofs.Changes.{settled-outside, module-outside, sampled-outside, flags-outside, selected-outside, cleared-byte, cleared-length, shown-outside}
 use Rattle.laws_frames.proofs.Commands.{command-off}
 use Rattle.laws_sound.specs.Sound.{seenOf, Sound}
 use Rattle.laws_frames.specs.Frames.{Beside, SameOutside, SameOffCommand, stateEnd, pendingEnd, Advertised}
@@ -135,6 +136,11 @@ selected-quiet page x = quiet-of 126 128 (λ i a b. covered-in freeRanges (range
 pub settled-quiet : (x : Image) → Quiet x (settledImage x)
 unfolding coveredBy both either
 settled-quiet x = quiet-of 3 4 (λ i a b. covered-in freeRanges (range 3 3) i refl a (omega arith)) (settled-outside x)
+
+pub module-quiet : (line : Bool) (x : Image) → Quiet x (moduleImage line x)
+unfolding coveredBy both either
+module-quiet line x =
+    quiet-of moduleState (moduleFlags + 1) (λ i a b. covered-in freeRanges (range moduleState moduleFlags) i refl a (omega arith)) (module-outside line x)
 
 pub sampled-quiet : (l p : ℕ) (x : Image) → l < 8 → Quiet x (sampledImage l p x)
 unfolding coveredBy both either

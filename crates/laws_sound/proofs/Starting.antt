@@ -1,6 +1,6 @@
 -- What start leaves is sound, whatever the image. Assumes nothing.
 use mathlib.Core.Path.{_≡_, refl, sym, ap, _∙_}
-use mathlib.Core.Bool.{true, false, not}
+use mathlib.Core.Bool.{Bool, true, false, not}
 use Prim.Native.Nat.{ℕ, _+_, _-_, _*_, _%_, _≤_, _<_}
 use native.Mathlib.Omega.{arith}
 use lib.Dec.{eqb, ltb}
@@ -18,11 +18,12 @@ use Rattle.bits.proofs.Loops.{all-at, tab-at, length-tab}
 use Rattle.bits.specs.Sets.{laneCount}
 use Rattle.model.specs.Map.{Image, inRanges, kept, activeSet, statusAt, pendingAt, stateAt, settingAt, imageLength, page11, stateBytes, statusBytes, pendingByte, pageLength}
 use Rattle.model.specs.Statuses.{undefined}
-use Rattle.model.specs.Records.{stageAt, isInProgress}
+use Rattle.model.specs.Records.{noSettings, idleWith, stageAt, isInProgress}
+use Rattle.model.specs.State.{State, stateWith}
 use Rattle.model.specs.View.{settingsAt, settingsOf, of, appSel, isUsed}
-use Rattle.model.specs.Start.{allDeactivated, isStateByte, startValue, startByte, startedState}
+use Rattle.model.specs.Start.{allDeactivated, isStateByte, startValue, startByte, startedState, resetState}
 use Rattle.model.specs.declared.lane.Settings.{Settings}
-use Rattle.laws_frames.proofs.Registers.{lane-from, lane-to, setting-from, setting-to}
+use Rattle.laws_frames.proofs.Registers.{lane-from, lane-to, setting-from, setting-to, settings-path}
 use Rattle.laws_frames.proofs.Stages.{idle-stage}
 use Rattle.laws_frames.specs.Frames.{stateEnd}
 use Rattle.laws_sound.proofs.Stranger.{not-idle}
@@ -87,27 +88,45 @@ start-unused x l b = ap isUsed (settings-lane activeSet (startedState x .image) 
     ∙ no-app (settingsAt activeSet (startedState x .image) l)
     (zero-place x (settingAt activeSet 0 l) (omega (arith, setting-from activeSet 0 l (omega arith) b)) (omega (arith, setting-to activeSet 0 l (omega arith) b)))
 
-start-idle : (x : Image) (l : ℕ) → l < 8 → isInProgress (stageAt (startedState x .working) l) ≡ false
-unfolding startedState isInProgress
-start-idle x l b = ap isInProgress (idle-stage l b)
+-- every active setting is 0
+pub start-blank : (x : Image) (l : ℕ) → l < 8 → settingsAt activeSet (startedState x .image) l ≡ noSettings
+unfolding settingsAt
+start-blank x l b = settings-path (zero 0 (omega arith)) (zero 1 (omega arith)) (zero 2 (omega arith)) (zero 3 (omega arith))
+    (zero 4 (omega arith)) (zero 5 (omega arith)) (zero 6 (omega arith)) (zero 7 (omega arith))
+  where
+    zero : (k : ℕ) → k < 8 → get (startedState x .image) (settingAt activeSet k l) ≡ 0
+    zero k h = zero-place x (settingAt activeSet k l) (omega (arith, setting-from activeSet k l h b)) (omega (arith, setting-to activeSet k l h b))
+
+pub idle-lane : (line : Bool) (l : ℕ) → l < 8 → isInProgress (stageAt (idleWith line) l) ≡ false
+unfolding isInProgress
+idle-lane line l b = ap isInProgress (idle-stage line l b)
 
 -- ConfigStatus: no Apply since start
 pub start-undefined : (x : Image) (l : ℕ) → l < laneCount → get (startedState x .image) (statusAt l) ≡ undefined
 start-undefined x l b = zero-place x (statusAt l) (omega (arith, lane-from statusBytes 4 l b refl)) (omega (arith, lane-to statusBytes 4 l b refl))
 
-pub start-well : (x : Image) → Well (getD x 2 0) (startedState x)
+-- the image that start makes, with all lanes idle, whatever the low-power line is
+fresh-well : (x : Image) (line : Bool) → Well (getD x 2 0) (stateWith (startedState x .image) (idleWith line))
 unfolding startedState startByte
-start-well x = record {
+fresh-well x line = record {
   size = length-tab imageLength (startByte x);
   low = start-byte x 2 (omega arith) ∙ pick-true _ _ kept-two;
   sound = record {
-    told = λ l b. rw (start-undefined x l b) (sym (start-idle x l b));
-    grouped = λ l p b e. absurd (not-idle (idle-stage l b) e);
+    told = λ l b. rw (start-undefined x l b) (sym (idle-lane line l b));
+    grouped = λ l p b e. absurd (not-idle (idle-stage line l b) e);
     used = λ l b f u. absurd (clash u (start-unused x l b));
     unused = λ l b f u. record {
       state = states-lane (startedState x .image) l b ∙ start-state x l b;
       pending = zero-place x (pendingAt l) (omega (arith, lane-from pendingByte 1 l b refl)) (omega (arith, lane-to pendingByte 1 l b refl));
     };
-    passes = λ l n p b e q. absurd (not-idle (idle-stage l b) e);
+    passes = λ l n p b e q. absurd (not-idle (idle-stage line l b) e);
   };
 }
+
+pub start-well : (x : Image) → Well (getD x 2 0) (startedState x)
+unfolding startedState
+start-well x = fresh-well x false
+
+pub reset-well : (two : ℕ) (s : State) → Well two s → Well two (resetState s)
+unfolding resetState
+reset-well two s W = rw (W .low) at (fresh-well (s .image) (s .working .line))

@@ -22,13 +22,13 @@ use Rattle.model.specs.Triggers.{isMarked, stageAfter, markedState, isIgnored, 
 use Rattle.model.specs.Work.{early}
 use Rattle.model.specs.Flags.{lastingState, sampledState}
 use Rattle.model.specs.Commands.{commandImage}
-use Rattle.model.specs.Access.{storedState, byteWrittenState, bytesWrittenState, endedState}
+use Rattle.model.specs.Access.{withoutReset, storedState, byteWrittenState, bytesWrittenState, resets, endedState}
 use Rattle.model.specs.Refusals.{Refusal, firstOf, noSuchLane, isBusy, isUnused, eventRefusals}
 use Rattle.model.specs.Step.{readEffect, eventEffect, doneStep, refusedStep, answeredStep, step}
 use Rattle.model.specs.declared.lane.Trigger.{Trigger}
 use Rattle.model.specs.declared.lane.Trigger.the-variants.{DpInit, Immediate}
 use Rattle.model.specs.declared.event.Call.{Call}
-use Rattle.model.specs.declared.event.Call.the-variants.{Write, Read, Work, Hardware, Condition, Sample, Lasting}
+use Rattle.model.specs.declared.event.Call.the-variants.{Write, Read, Work, Hardware, Condition, Sample, Lasting, Module, Line}
 use Rattle.model.specs.declared.event.Event.{Event}
 use Rattle.model.specs.declared.lane.Working.{Working}
 use Rattle.laws_frames.proofs.Outside.{below-range, above-range}
@@ -40,7 +40,8 @@ use Rattle.laws_sound.specs.Sound.{Seen, seenOf}
 use Rattle.laws_frames.specs.Frames.{SameOutside, stateEnd, statusEnd, pendingEnd}
 use Rattle.laws_sound.proofs.Closing.{quiet-sound}
 use Rattle.laws_sound.proofs.Marking.{marking}
-use Rattle.laws_sound.proofs.Quiet.{Well, quiet-well, set-quiet, selected-quiet, settled-quiet, sampled-quiet, condition-quiet, cleared-quiet, shown-quiet, command-quiet, restaged-well}
+use Rattle.laws_sound.proofs.Starting.{reset-well}
+use Rattle.laws_sound.proofs.Quiet.{Well, quiet-well, set-quiet, selected-quiet, settled-quiet, module-quiet, sampled-quiet, condition-quiet, cleared-quiet, shown-quiet, command-quiet, restaged-well}
 use Rattle.laws_sound.proofs.WorkSteps.{settings-lane, work-well}
 use Rattle.laws_sound.proofs.PathEvents.{hardware-well}
 
@@ -100,7 +101,7 @@ stored-well two i v s W =
     pick-has (Well two) (eqb i pageSelect) (λ e. quiet-well two (s .image) _ (s .working) (selected-quiet v (s .image)) W)
     (λ e. pick-has (Well two) (eqb i applyDPInit) (λ e. triggered-well two DpInit stagedSet0 s v W)
     (λ e. pick-has (Well two) (eqb i applyImmediate) (λ e. triggered-well two Immediate stagedSet0 s v W)
-    (λ e. pick-has (Well two) (writable i) (λ e. quiet-well two (s .image) _ (s .working) (set-quiet (s .image) i v e) W) (λ e. W))))
+    (λ e. pick-has (Well two) (writable i) (λ e. quiet-well two (s .image) _ (s .working) (set-quiet (s .image) i (withoutReset i v) e) W) (λ e. W))))
 
 bytes-well : (two address : ℕ) (vs : List ℕ) (s : State) → Well two s → Well two (bytesWrittenState address vs s)
 unfolding bytesWrittenState byteWrittenState
@@ -114,9 +115,11 @@ unfolding onlyIf
 only-well two true f x w W U = U
 only-well two false f x w W U = W
 
-ended-well : (two address n : ℕ) (s : State) → Well two s → Well two (endedState address n s)
+ended-well : (two address : ℕ) (bytes : List ℕ) (n : ℕ) (s : State) → Well two s → Well two (endedState address bytes n s)
 unfolding endedState
-ended-well two address n s W = only-well two _ commandImage (s .image) (s .working) W (quiet-well two (s .image) _ (s .working) (command-quiet (s .image)) W)
+ended-well two address bytes n s W =
+    pick-has (Well two) (resets address bytes n) (λ e. reset-well two s W)
+    (λ e. only-well two _ commandImage (s .image) (s .working) W (quiet-well two (s .image) _ (s .working) (command-quiet (s .image)) W))
 
 -- ---- calls that are not refused
 
@@ -142,7 +145,7 @@ not-unused s l e = not-false _ e
 carried-well : (two room : ℕ) (s : State) (bytes : List ℕ) (call : Call) → Well two s → isDone (firstOf (eventRefusals room s call)) ≡ true
     → Well two (eventEffect early s bytes call .state)
 unfolding eventEffect readEffect sampledState lastingState eventRefusals isDone
-carried-well two room s bytes (Write address count) W e = ended-well two address count _ (bytes-well two address (take count bytes) s W)
+carried-well two room s bytes (Write address count) W e = ended-well two address (take count bytes) count _ (bytes-well two address (take count bytes) s W)
 carried-well two room s bytes (Read address count) W e =
     quiet-well two _ _ (s .working) (shown-quiet (s .working) _ count _) (quiet-well two (s .image) _ (s .working) (cleared-quiet (s .image) _ count) W)
 carried-well two room s bytes (Work l) W e = work-well two s l W (a-lane l (not-refused _ _ refl e .0))
@@ -150,7 +153,7 @@ carried-well two room s bytes (Hardware l) W e =
     let r₁ = not-refused _ _ refl e in
     let r₂ = not-refused _ _ refl (r₁ .1) in
     let r₃ = not-refused _ _ refl (r₂ .1) in
-    hardware-well two s W l (a-lane l (r₁ .0)) (not-busy s l (r₂ .0)) false (not-unused s l (r₃ .0))
+    hardware-well two s W l (a-lane l (r₁ .0)) (not-busy s l (r₂ .0)) _ (not-unused s l (r₃ .0))
 carried-well two room s bytes (Condition flag mask) W e =
     quiet-well two (s .image) _ (s .working) (condition-quiet flag mask (s .image) (not-false _ (not-refused _ _ refl e .0))) W
 carried-well two room s bytes (Sample l p) W e =
@@ -159,6 +162,8 @@ carried-well two room s bytes (Sample l p) W e =
 carried-well two room s bytes (Lasting flag on off) W e =
     restaged-well two _ (s .working) _ (stage-kept (s .working) _)
     (quiet-well two (s .image) _ (s .working) (condition-quiet flag on (s .image) (not-false _ (not-refused _ _ refl e .0))) W)
+carried-well two room s bytes Module W e = quiet-well two (s .image) _ (s .working) (module-quiet (s .working .line) (s .image)) W
+carried-well two room s bytes (Line on) W e = restaged-well two (s .image) (s .working) _ (λ l b. refl) W
 
 -- ---- every event, refused or done
 

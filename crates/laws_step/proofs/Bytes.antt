@@ -16,7 +16,7 @@ use Rattle.model.specs.View.{View}
 use Rattle.model.specs.State.{State, withImage}
 use Rattle.model.specs.Triggers.{markedStage, triggeredState}
 use Rattle.model.specs.Pages.{pageStart, selectedStart, indexOf, withPage, selectedImage}
-use Rattle.model.specs.Access.{storedState, byteWrittenState, bytesWrittenState, halfEnd}
+use Rattle.model.specs.Access.{withoutReset, storedState, byteWrittenState, bytesWrittenState, halfEnd}
 use Rattle.model.specs.declared.lane.Trigger.{Trigger}
 use Rattle.model.specs.declared.lane.Trigger.the-variants.{DpInit, Immediate}
 use Rattle.model.specs.declared.lane.Working.{Working}
@@ -114,7 +114,7 @@ module _ (from to : ℕ) where
       (λ e. split (eqb i applyDPInit) (λ f. rw (e, f, pick) (trigger-by DpInit s v))
       (λ f. split (eqb i applyImmediate) (λ g. rw (e, f, g, pick) (trigger-by Immediate s v))
       (λ g. split (writable i)
-      (λ w. rw (e, f, g, w, pick) (unmarked s _ (keeps-set _ (s .image) i v (λ b. either-i-l _ _ (both-i w (here i lo hi))))))
+      (λ w. rw (e, f, g, w, pick) (unmarked s _ (keeps-set _ (s .image) i (withoutReset i v) (λ b. either-i-l _ _ (both-i w (here i lo hi))))))
       (λ w. rw (e, f, g, w, pick) (unmarked s (s .image) (keeps-refl _ (s .image)))))))
 
 -- ---- the bytes of a write, in address order

@@ -1,26 +1,25 @@
 -- A command message: what it changes, and what each place then holds. Assumes nothing.
-use mathlib.Core.Path.{_≡_, refl, sym, ap, _∙_}
+use mathlib.Core.Path.{_≡_, refl, sym, _∙_}
 use mathlib.Core.Bool.{Bool, true, false}
+use mathlib.Core.List.{List}
 use Prim.Native.Nat.{ℕ, _+_, _≤_, _<_}
 use native.Mathlib.Omega.{arith}
-use lib.Dec.{eqb}
 use lib.ListN.{length, getD, set, length-set}
 use lib.Seq.{getD-set-same, getD-set-other}
-use borrow.Author.Tests.{eqb-true, eq-eqb, ne-eqb, leb-true, ltb-true, le-leb, lt-ltb}
+use borrow.Author.Tests.{ne-eqb, leb-true, ltb-true, le-leb, lt-ltb}
 use Rattle.bits.specs.Choice.{onlyIf, both, either}
-use Rattle.bits.specs.Loop.{each}
 use Rattle.bits.specs.Place.{get, put, covers}
-use Rattle.bits.proofs.Tests.{both-l, both-r, both-i, either-cases, either-i-l, either-i-r}
-use Rattle.bits.proofs.Places.{get-put-fits, covers-in, length-put}
-use Rattle.model.specs.Map.{Image, imageLength, runAddress, commandStatus, commandCompleteBit, moduleFlags, commandNumber, replyLength, replyCode, messageBody}
+use Rattle.bits.proofs.Tests.{both-l, both-r, both-i, either-i-l, either-i-r}
+use Rattle.bits.proofs.Places.{get-put-fits, covers-in}
+use Rattle.model.specs.Map.{Image, imageLength, moduleControls, runAddress, commandStatus, commandCompleteBit, moduleFlags, commandNumber, replyLength, replyCode, messageBody}
 use Rattle.model.specs.Flags.{settledImage}
-use Rattle.model.specs.Access.{writes, runsCommand}
-use Rattle.model.specs.Commands.{bodyLimit, checkCode, sumOf, lengthOf, replyOf, statusOf, statusCode, withReplyHeader, withReply, repliedImage, completedImage, commandImage}
+use Rattle.model.specs.Access.{writes, runsCommand, resets}
+use Rattle.model.specs.Commands.{lengthOf, replyOf, statusOf, statusCode, withReplyHeader, withReply, repliedImage, completedImage, commandImage}
 use Rattle.model.specs.declared.command.Command.{Command}
 use Rattle.model.specs.declared.command.CommandStatus.{CommandStatus}
 use Rattle.model.specs.declared.command.CommandStatus.the-variants.{Success, UnknownNumber, WrongCode}
 use Rattle.laws_frames.proofs.Commands.{reply-fits, header-length, header-code, reply-length, reply-code, reply-byte}
-use Rattle.laws_step.specs.Changes.{Bits, ChangesOnly, orIn, inBytes}
+use Rattle.laws_step.specs.Changes.{ChangesOnly, orIn, inBytes}
 use Rattle.laws_step.specs.Told.{amid, lengthAfter, codeAfter, commandSet, CommandTold, endedImage, endSet}
 use Rattle.laws_step.proofs.Frames.{neither, unless, keeps-refl, keeps-put, keeps-set, keeps-then, keeps-each, keeps-get, keeps-byte}
 use Rattle.laws_step.proofs.Settling.{settled-changes, settled-byte, past-interrupt}
@@ -151,7 +150,15 @@ ended-changes address n x = by (runsCommand address n x)
     by true = command-changes x
     by false = keeps-refl _ x
 
--- a write that writes an address ends past it
+-- a write writes the addresses from its first to before its end
+pub writes-at : (address n a : ℕ) → address ≤ a → a < address + n → writes address n a ≡ true
+unfolding writes
+writes-at address n a lo hi = both-i (le-leb address a lo) (lt-ltb a (address + n) hi)
+
+pub written-from : (address n a : ℕ) → writes address n a ≡ true → address ≤ a
+unfolding writes
+written-from address n a t = leb-true address a (both-l _ _ t)
+
 pub written-past : (address n a : ℕ) → writes address n a ≡ true → a < address + n
 unfolding writes
 written-past address n a t = ltb-true a (address + n) (both-r _ _ t)
@@ -160,3 +167,8 @@ written-past address n a t = ltb-true a (address + n) (both-r _ _ t)
 pub lower-runs-none : (address n : ℕ) (x : Image) → address + n ≤ runAddress → runsCommand address n x ≡ false
 unfolding runsCommand
 lower-runs-none address n x h = unless (λ t. omega (arith, written-past address n runAddress (both-l _ _ t)))
+
+-- a write past lower 26 resets nothing
+pub later-resets-none : (address : ℕ) (bytes : List ℕ) (n : ℕ) → moduleControls < address → resets address bytes n ≡ false
+unfolding resets
+later-resets-none address bytes n h = unless (λ t. omega (arith, written-from address n moduleControls (both-l _ _ t)))

@@ -19,7 +19,7 @@ use Rattle.model.specs.Work.{early, isRelease, commissionMask, closingEffect, w
 use Rattle.model.specs.Refusals.{firstOf, eventRefusals}
 use Rattle.model.specs.Step.{step, eventEffect, doneStep, refusedStep, answeredStep, readEffect}
 use Rattle.model.specs.declared.event.Call.{Call}
-use Rattle.model.specs.declared.event.Call.the-variants.{Write, Read, Work, Hardware, Condition, Sample, Lasting}
+use Rattle.model.specs.declared.event.Call.the-variants.{Write, Read, Work, Hardware, Condition, Sample, Lasting, Module, Line}
 use Rattle.model.specs.declared.event.Event.{Event}
 use Rattle.model.specs.declared.lane.Trigger.{Trigger}
 use Rattle.model.specs.declared.lane.Trigger.the-variants.{DpInit, Immediate}
@@ -97,6 +97,8 @@ module _ (s : State) where
   call-told bytes (Condition flag mask) n = absurd (n refl)
   call-told bytes (Sample l p) n = absurd (n refl)
   call-told bytes (Lasting flag on off) n = absurd (n refl)
+  call-told bytes Module n = absurd (n refl)
+  call-told bytes (Line on) n = absurd (n refl)
 
 -- a step whose mask is not 0 is a work step that closes such a group, and the mask is the group
 pub commission-only : (room : ℕ) (s : State) (e : Event) → step early room s e .mask ≢ 0

@@ -17,7 +17,7 @@ use Rattle.model.specs.Flags.{conditionOn, lastingState, aboveAlarm, belowAlarm
 use Rattle.model.specs.Step.{event, eventEffect, doneStep, step}
 use Rattle.model.specs.declared.answer.Answer.the-variants.{Done}
 use Rattle.model.specs.declared.event.Call.{Call}
-use Rattle.model.specs.declared.event.Call.the-variants.{Write, Read, Work, Hardware, Condition, Sample, Lasting}
+use Rattle.model.specs.declared.event.Call.the-variants.{Write, Read, Work, Hardware, Condition, Sample, Lasting, Module, Line}
 use Rattle.model.specs.declared.event.Event.{Event}
 use Rattle.model.proofs.Lasting.{flag-now, flag-other}
 use Rattle.laws.proofs.Unchanged.{done-is}
@@ -30,28 +30,30 @@ use Rattle.laws_step.proofs.Sensing.{is-lane}
 
 -- what a step that is done leaves of what is on
 on-done : (room : ℕ) (s : State) (e : Event) → step early room s e .answer ≡ Done → (l : ℕ) → l < 8
-    → onAt (step early room s e .state .working) l ≡ onAfter s (e .call) l
+    → onAt (step early room s e .state .working) l ≡ onAfter s (e .bytes) (e .call) l
 unfolding doneStep
 on-done room s e d l h = rw (done-step room s e d) (event-on l h early s (e .bytes) (e .call))
 
 -- ---- nothing else
 
-call-keeps-on : (s : State) (c : Call) (l : ℕ) → mayTurn c l ≡ false → onAfter s c l ≡ onAt (s .working) l
+call-keeps-on : (s : State) (bytes : List ℕ) (c : Call) (l : ℕ) → mayTurn bytes c l ≡ false → onAfter s bytes c l ≡ onAt (s .working) l
 unfolding mayTurn onAfter
-call-keeps-on s (Write address count) l n = refl
-call-keeps-on s (Read address count) l n = refl
-call-keeps-on s (Work m) l n = refl
-call-keeps-on s (Hardware m) l n = refl
-call-keeps-on s (Condition flag mask) l n = refl
-call-keeps-on s (Sample m p) l n = pick-false _ _ n
-call-keeps-on s (Lasting flag on off) l n = absurd (clash refl n)
+call-keeps-on s bytes (Write address count) l n = pick-false _ _ n
+call-keeps-on s bytes (Read address count) l n = refl
+call-keeps-on s bytes (Work m) l n = refl
+call-keeps-on s bytes (Hardware m) l n = refl
+call-keeps-on s bytes (Condition flag mask) l n = refl
+call-keeps-on s bytes (Sample m p) l n = pick-false _ _ n
+call-keeps-on s bytes (Lasting flag on off) l n = absurd (clash refl n)
+call-keeps-on s bytes Module l n = refl
+call-keeps-on s bytes (Line on) l n = refl
 
--- no other event, done or refused, changes what is on: no write with its triggers, no read, no work step, no hardware event, no condition that comes once
-pub on-kept : (room : ℕ) (s : State) (e : Event) (l : ℕ) → l < 8 → mayTurn (e .call) l ≡ false
+-- no other event, done or refused, changes what is on: no write with its triggers but a reset, no read, no work step, no hardware event, no condition that comes once
+pub on-kept : (room : ℕ) (s : State) (e : Event) (l : ℕ) → l < 8 → mayTurn (e .bytes) (e .call) l ≡ false
     → onAt (step early room s e .state .working) l ≡ onAt (s .working) l
 unfolding isDone
 on-kept room s e l h n = split (isDone (step early room s e .answer))
-    (λ d. on-done room s e (done-is _ d) l h ∙ call-keeps-on s (e .call) l n)
+    (λ d. on-done room s e (done-is _ d) l h ∙ call-keeps-on s (e .bytes) (e .call) l n)
     (λ d. rw (refused-step room s e (λ q. clash (ap isDone q) d)))
 
 -- ---- a lasting condition

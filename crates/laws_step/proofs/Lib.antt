@@ -2,6 +2,7 @@
 pub mod Frames
 pub mod Within
 pub mod Settling
+pub mod Beginning
 pub mod Stepped
 pub mod Places
 pub mod Triggering
@@ -16,8 +17,10 @@ pub mod Paging
 pub mod Moving
 pub mod Reading
 pub mod Muting
+pub mod Powering
 pub mod Sensing
 pub mod Lasting
 pub mod Keeping
 pub mod Calling
 pub mod Running
+pub mod Darkness

@@ -15,7 +15,7 @@ use Rattle.bits.proofs.Tests.{split, clash, both-l, both-r, either-cases}
 use Rattle.model.specs.Map.{pageSelect, applyDPInit, applyImmediate, inRanges, writable, imageLength}
 use Rattle.model.specs.State.{State, withImage}
 use Rattle.model.specs.Pages.{indexOf}
-use Rattle.model.specs.Access.{storedState, byteWrittenState, bytesWrittenState, halfEnd}
+use Rattle.model.specs.Access.{withoutReset, storedState, byteWrittenState, bytesWrittenState, halfEnd}
 use Rattle.model.specs.declared.lane.Working.{Working}
 use Rattle.laws_step.specs.Changes.{orIn, inBytes, statusSet}
 use Rattle.laws_step.specs.Told.{amid, writtenBytes, writeSet}
@@ -30,7 +30,7 @@ bytes-append a [] vs s = rw add-zero
 bytes-append a (u ∷ us) vs s = let e : a + suc (length us) ≡ suc a + length us = omega arith in rw e (bytes-append (suc a) us vs (byteWrittenState a u s))
 
 -- a writable byte is neither 127 nor a trigger, and keeps what is written to it
-stored-writable : (i v : ℕ) (s : State) → writable i ≡ true → storedState i v s ≡ withImage s (set (s .image) i v)
+stored-writable : (i v : ℕ) (s : State) → writable i ≡ true → storedState i v s ≡ withImage s (set (s .image) i (withoutReset i v))
 unfolding storedState writable inRanges both either pick
 stored-writable i v s w = split (eqb i pageSelect)
     (λ e. absurd (clash w (ap writable (eqb-true i 127 e))))
@@ -102,16 +102,16 @@ module _ (a k : ℕ) (before rest : List ℕ) (v : ℕ) (s : State) (size : leng
         (λ t. omega (arith, place-past (s .image) a (ltb-false a 128 t))),
   )
 
-  stored-it : writable (indexOf (s .image) a + k) ≡ true → with-it ≡ withImage until (set (until .image) (indexOf (s .image) a + k) v)
+  stored-it : writable (indexOf (s .image) a + k) ≡ true → with-it ≡ withImage until (set (until .image) (indexOf (s .image) a + k) (withoutReset (indexOf (s .image) a + k) v))
   unfolding with-it byteWrittenState
   stored-it w = rw (place-moves a k _ s until (omega arith) so-far) (stored-writable (indexOf (s .image) a + k) v until w)
 
   pub in-the-middle : length (s .image) ≡ imageLength → writable (indexOf (s .image) a + k) ≡ true → (indexOf (s .image) a + k ≡ 126 → length rest ≡ 0)
-      → getD (bytesWrittenState a (before ++ (v ∷ rest)) s .image) (indexOf (s .image) a + k) 0 ≡ v
+      → getD (bytesWrittenState a (before ++ (v ∷ rest)) s .image) (indexOf (s .image) a + k) 0 ≡ withoutReset (indexOf (s .image) a + k) v
   unfolding bytesWrittenState until with-it
   in-the-middle full w q =
       ap (λ z. getD (z .image) (indexOf (s .image) a + k) 0)
       (bytes-append a before (v ∷ rest) s ∙ ap (λ n. bytesWrittenState (suc (a + n)) rest (byteWrittenState (a + n) v (bytesWrittenState a before s))) size)
       ∙ after-it (suc (a + k)) (indexOf (s .image) a + k) rest with-it next-place w q
       ∙ ap (λ z. getD (z .image) (indexOf (s .image) a + k) 0) (stored-it w)
-      ∙ getD-set-same (until .image) (indexOf (s .image) a + k) v 0 (omega (arith, so-far .bits .size, writable-in (indexOf (s .image) a + k) w))
+      ∙ getD-set-same (until .image) (indexOf (s .image) a + k) (withoutReset (indexOf (s .image) a + k) v) 0 (omega (arith, so-far .bits .size, writable-in (indexOf (s .image) a + k) w))

@@ -1,23 +1,28 @@
 -- A hardware event that is done changes DPState, DPStateChanged and DPInitPending of its path's lanes, and lower 3.0, and no record. Assumes nothing.
-use mathlib.Core.Path.{_≡_, refl, sym, _∙_}
+use mathlib.Core.Path.{_≡_, refl, sym, ap, _∙_}
 use mathlib.Core.Bool.{Bool, true, false, not}
 use mathlib.Core.List.{List}
 use Prim.Native.Nat.{ℕ, _+_, _≤_, _<_}
 use native.Mathlib.Omega.{arith}
+use lib.Dec.{eqb}
 use lib.ListN.{length}
+use borrow.Author.Tests.{ltb-true, not-false, eq-eqb}
 use Rattle.bits.specs.Choice.{pick, onlyIf, both}
 use Rattle.bits.specs.Place.{get}
-use Rattle.bits.specs.Sets.{has}
+use Rattle.bits.specs.Sets.{has, laneCount}
 use Rattle.bits.proofs.Tests.{split, only-true, only-false, pick-true, pick-false}
 use Rattle.model.specs.Map.{Image, activeSet, stateAt, pendingAt, flagAt, stateChangedFlag, page11, on, imageLength, flagBytes, setLength, stateBytes}
 use Rattle.model.specs.PathStates.{codeOf, stateOf, resting}
 use Rattle.model.specs.View.{settingsOf, pathOf}
 use Rattle.model.specs.State.{State}
 use Rattle.model.specs.Registers.{withPending, withPathState, withFlags}
+use Rattle.model.specs.Power.{holdsDown}
 use Rattle.model.specs.Hardware.{signalsOf, nextState, isState, isInitialized, enteredImage, movedImage, movedPathImage, hardwareImage}
 use Rattle.model.specs.Flags.{settledImage}
+use Rattle.model.specs.Answers.{isDone}
+use Rattle.model.specs.Refusals.{eventRefusals, noSuchLane}
 use Rattle.model.specs.Step.{event, eventEffect, doneStep}
-use Rattle.model.specs.declared.answer.Answer.the-variants.{Done}
+use Rattle.model.specs.declared.answer.Answer.the-variants.{Done, NoSuchTarget}
 use Rattle.model.specs.declared.event.Call.the-variants.{Hardware}
 use Rattle.model.specs.declared.path.PathState.{PathState}
 use Rattle.model.specs.declared.path.PathState.the-variants.{Reserved, Deactivated, Init, Deinit, Activated, TxTurnOn, TxTurnOff, Initialized}
@@ -26,7 +31,7 @@ use Rattle.laws_step.specs.Changes.{ChangesOnly, orIn, interruptSet, sta
 use Rattle.laws_step.specs.Told.{stepOn, pathSet, PathMoved}
 use Rattle.laws_step.proofs.Frames.{unless, keeps-then, keeps-left, keeps-right, keeps-only, keeps-lanes, keeps-lane, lanes-written, lanes-bytes}
 use Rattle.laws_step.proofs.Settling.{settled-lane}
-use Rattle.laws_step.proofs.Stepped.{done-step, step-changes}
+use Rattle.laws_step.proofs.Stepped.{not-refused, none-refused, done-step, step-changes}
 use Rattle.laws_step.proofs.Working.{pending-changes, pending-written}
 
 pub flag-changes : (address g : ℕ) (x : Image) → ChangesOnly (flagSet address (has g)) x (withFlags address g x)
@@ -152,6 +157,19 @@ module _ (room : ℕ) (s : State) (bytes : List ℕ) (l : ℕ) (d : stepOn room 
 
   -- the path of lane l goes from the state that lane l shows to the one that follows by the path's signals
   pub hardware-moves : length (s .image) ≡ imageLength → let g = pathOf (settingsOf activeSet (s .image)) l in let from = stateOf (get (s .image) (stateAt l)) in
-      PathMoved g from (nextState from (signalsOf false (s .image) g)) (s .image) (stepOn room s (Hardware l) bytes .state .image)
+      PathMoved g from (nextState from (signalsOf (holdsDown (s .working .line) (s .image)) (s .image) g)) (s .image) (stepOn room s (Hardware l) bytes .state .image)
   unfolding doneStep eventEffect hardwareImage movedPathImage
   hardware-moves size = rw (done-step room s (event (Hardware l) bytes) d) (path-moved _ _ _ (s .image) size)
+
+  -- the lane is one of the module's
+  pub hardware-lane : l < laneCount
+  unfolding eventRefusals noSuchLane isDone
+  hardware-lane = ltb-true l laneCount (not-false _ (not-refused NoSuchTarget _ _ refl (none-refused room s (event (Hardware l) bytes) d) .0))
+
+  -- a path whose state follows itself changes nothing but lower 3.0, which every event settles
+  pub hardware-stays : let from = stateOf (get (s .image) (stateAt l)) in
+      nextState from (signalsOf (holdsDown (s .working .line) (s .image)) (s .image) (pathOf (settingsOf activeSet (s .image)) l)) ≡ from
+      → stepOn room s (Hardware l) bytes .state .image ≡ settledImage (s .image)
+  unfolding doneStep eventEffect hardwareImage movedPathImage isState
+  hardware-stays e = rw (done-step room s (event (Hardware l) bytes) d)
+      (ap settledImage (stays-there _ _ _ (s .image) (ap (λ p. eqb (codeOf (stateOf (get (s .image) (stateAt l)))) (codeOf p)) e ∙ eq-eqb (codeOf (stateOf (get (s .image) (stateAt l)))) _ refl)))

@@ -16,6 +16,7 @@ use Rattle.model.specs.Map.{Image, activeSet, stateAt, outputDisableAt, squelch
 use Rattle.model.specs.PathStates.{codeOf, stateOf}
 use Rattle.model.specs.View.{settingsOf, pathOf}
 use Rattle.model.specs.State.{State}
+use Rattle.model.specs.Power.{holdsDown}
 use Rattle.model.specs.Hardware.{someBit, toDeactivate, signalsOf, nextState, isState}
 use Rattle.model.specs.declared.answer.Answer.the-variants.{Done}
 use Rattle.model.specs.declared.event.Call.the-variants.{Hardware}
@@ -86,10 +87,10 @@ module _ (room : ℕ) (s : State) (bytes : List ℕ) (l : ℕ) (d : stepOn room 
     (agree : get (s .image) (stateAt m) ≡ get (s .image) (stateAt l)) where
   -- a lane of the path, which showed the path's state, shows the one that follows
   pub hardware-shows : stateOf (get (stepOn room s (Hardware l) bytes .state .image) (stateAt m))
-      ≡ nextState (stateOf (get (s .image) (stateAt l))) (signalsOf false (s .image) (pathOf (settingsOf activeSet (s .image)) l))
+      ≡ nextState (stateOf (get (s .image) (stateAt l))) (signalsOf (holdsDown (s .working .line) (s .image)) (s .image) (pathOf (settingsOf activeSet (s .image)) l))
   hardware-shows = rw (hardware-moves room s bytes l d size .states m b h, agree) (shown (get (s .image) (stateAt l)) _)
 
   -- .. and with a muted output on the path it shows none in which the path shines
   pub muted-goes-dark : MutedLane (s .image) (pathOf (settingsOf activeSet (s .image)) l)
       → shines (stateOf (get (stepOn room s (Hardware l) bytes .state .image) (stateAt m))) ≡ false
-  muted-goes-dark M = rw hardware-shows (dark-next _ _ (muted-told false (s .image) _ M))
+  muted-goes-dark M = rw hardware-shows (dark-next _ _ (muted-told _ (s .image) _ M))

@@ -17,7 +17,7 @@ use Rattle.bits.proofs.Members.{any-of-i}
 use Rattle.model.specs.Map.{Image, imageLength, bankSelect, pageSelect, inRanges, writable}
 use Rattle.model.specs.State.{State, withImage}
 use Rattle.model.specs.Pages.{pages, pageStart, indexOf, withPage, selectedImage}
-use Rattle.model.specs.Access.{storedState, byteWrittenState, bytesWrittenState, endedState, halfEnd}
+use Rattle.model.specs.Access.{withoutReset, storedState, byteWrittenState, bytesWrittenState, endedState, halfEnd}
 use Rattle.model.specs.Flags.{settledImage}
 use Rattle.model.specs.Step.{event, eventEffect, doneStep}
 use Rattle.model.specs.declared.answer.Answer.the-variants.{Done}
@@ -29,8 +29,8 @@ use Rattle.laws_step.proofs.Settling.{settled-byte}
 use Rattle.laws_step.proofs.Stepped.{done-step}
 use Rattle.laws_step.proofs.Bytes.{lower-written}
 use Rattle.laws_step.proofs.Middle.{bytes-append, in-the-middle}
-use Rattle.laws_step.proofs.Commanding.{lower-runs-none}
-use Rattle.laws_step.proofs.Writing.{in-half}
+use Rattle.laws_step.proofs.Commanding.{lower-runs-none, later-resets-none}
+use Rattle.laws_step.proofs.Writing.{in-half, in-limit}
 
 -- ---- the lookup finds the pages that are supported, and no other
 
@@ -121,7 +121,7 @@ module _ (s : State) (a k : ℕ) (bytes : List ℕ) (size : length (s .image) �
 -- 126 then holds the bank
 bank-until : (s : State) (a k : ℕ) (bytes : List ℕ) → length (s .image) ≡ imageLength → suc k ≤ length bytes → a + k ≡ pageSelect
     → getD (bytesWrittenState a (take k bytes) s .image) bankSelect 0 ≡ bankAt (s .image) a bytes
-unfolding bytesWrittenState bankAt indexOf halfEnd writable inRanges both either pick
+unfolding bytesWrittenState bankAt indexOf halfEnd writable inRanges both either pick withoutReset
 bank-until s a zero bytes size n e = rw (lt-leb a 126 (omega arith), pick)
 bank-until s a (suc k) bytes size n e =
     let q : 126 - a ≡ k = omega arith in
@@ -141,5 +141,5 @@ page-rule room s address count bytes size n d lo hi =
     let c : count ≡ suc k = omega arith in
     let e : address + k ≡ 127 = omega arith in
     let m : suc k ≤ length bytes = omega arith in
-    rw (done-step room s (event (Write address count) bytes) d, lower-runs-none address count _ (omega arith), onlyIf, c, last-byte s address k bytes size m e, ← (bank-until s address k bytes size m e))
+    rw (done-step room s (event (Write address count) bytes) d, later-resets-none address _ count (omega (arith, in-limit room s bytes address count d)), lower-runs-none address count _ (omega arith), pick, onlyIf, c, last-byte s address k bytes size m e, ← (bank-until s address k bytes size m e))
     (rule-settled (until s address k bytes size m e .image) (getD bytes k 0) (until-size s address k bytes size m e))

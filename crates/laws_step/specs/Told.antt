@@ -10,13 +10,14 @@ use Rattle.bits.specs.Choice.{pick, onlyIf, both, either}
 use Rattle.bits.specs.Loop.{Among}
 use Rattle.bits.specs.Place.{get, digit, covers}
 use Rattle.bits.specs.Sets.{has, nextIn, laneCount, firstIn}
-use Rattle.model.specs.Map.{Image, Range, range, rangeOn, inRanges, writableRanges, clearedRanges, moduleState, commandStatus, commandCompleteBit, commandNumber, replyLength, replyCode, messageBody, page11, on, activeSet, outputDisableAt, squelchForceAt, statusAt, stateAt, bankSelect, pageSelect, writable, clearing, FlagPair, flagPairs, lastingIndex, pendingAt, flagAt, stateChangedFlag, receivedPower, highAlarmLimit, lowAlarmLimit, highWarningLimit, lowWarningLimit, highAlarmFlag, lowAlarmFlag, highWarningFlag, lowWarningFlag}
+use Rattle.model.specs.Map.{Image, Range, range, rangeOn, inRanges, writableRanges, clearedRanges, moduleState, moduleStateBits, moduleChangedBit, lowPwrAllowBit, lowPwrRequestBit, deinitAt, commandStatus, commandCompleteBit, commandNumber, replyLength, replyCode, messageBody, page11, on, activeSet, outputDisableAt, squelchForceAt, statusAt, stateAt, bankSelect, pageSelect, writable, clearing, FlagPair, flagPairs, lastingIndex, pendingAt, flagAt, stateChangedFlag, receivedPower, highAlarmLimit, lowAlarmLimit, highWarningLimit, lowWarningLimit, highAlarmFlag, lowAlarmFlag, highWarningFlag, lowWarningFlag}
 use Rattle.model.specs.PathStates.{codeOf, resting}
 use Rattle.model.specs.Records.{stageAt, onAt, onLanes, isInProgress, heldIn, withVerdict}
 use Rattle.model.specs.View.{viewOf, settingsAt}
 use Rattle.model.specs.State.{State}
 use Rattle.model.specs.Triggers.{isMarked, isIgnored}
 use Rattle.model.specs.Work.{early, isRelease, writtenSettings}
+use Rattle.model.specs.Power.{moduleCodeOf, isModuleState, isLowPower}
 use Rattle.model.specs.Hardware.{isState, isInitialized}
 use Rattle.model.specs.Flags.{power, settledImage}
 use Rattle.model.specs.Pages.{indexOf}
@@ -24,7 +25,7 @@ use Rattle.model.specs.Commands.{bodyLimit, checkCode, sumOf, lengthOf, replyOf
 use Rattle.model.specs.Access.{bytesWrittenState, runsCommand}
 use Rattle.model.specs.Step.{event, Stepped, step}
 use Rattle.model.specs.declared.event.Call.{Call}
-use Rattle.model.specs.declared.event.Call.the-variants.{Write, Read, Work, Hardware, Condition, Sample, Lasting}
+use Rattle.model.specs.declared.event.Call.the-variants.{Write, Read, Work, Hardware, Condition, Sample, Lasting, Module, Line}
 use Rattle.model.specs.declared.command.Command.{Command}
 use Rattle.model.specs.declared.command.CommandStatus.{CommandStatus}
 use Rattle.model.specs.declared.command.CommandStatus.the-variants.{Success, UnknownNumber, WrongCode}
@@ -35,7 +36,10 @@ use Rattle.model.specs.declared.lane.Progress.{Progress}
 use Rattle.model.specs.declared.lane.Stage.the-variants.{Idle, InProgress}
 use Rattle.model.specs.declared.lane.Working.{Working}
 use Rattle.model.specs.declared.path.PathState.{PathState}
-use Rattle.model.specs.declared.path.PathState.the-variants.{Activated, TxTurnOn, Initialized}
+use Rattle.model.specs.declared.path.PathState.the-variants.{Deactivated, Activated, TxTurnOn, Initialized}
+use Rattle.model.specs.declared.power.ModuleState.{ModuleState}
+use Rattle.model.specs.declared.power.ModuleState.the-variants.{LowPwr, Ready}
+use Rattle.laws_frames.specs.Frames.{isReset}
 use Rattle.laws_step.specs.Changes.{Bits, orIn, inBytes, statusSet, stateSet, flagSet, pendingSet}
 
 -- one event on a state; room is the length of the buffer that a read is lent, bytes are those that a write carries
@@ -150,6 +154,8 @@ runsOn x (Hardware l) = false
 runsOn x (Condition flag mask) = false
 runsOn x (Sample l p) = false
 runsOn x (Lasting flag on off) = false
+runsOn x Module = false
+runsOn x (Line on) = false
 
 -- ---- work steps
 
@@ -245,25 +251,64 @@ pub record SampleOn (l p : ℕ) (x : Image) (before after : Working) : Type 0 wh
   pub belowWarning : has (onAt after l) (lastingIndex lowWarningFlag) ≡ ltb p (power x lowWarningLimit)
   pub others : (k : ℕ) → (k < lastingIndex highAlarmFlag) ⊎ (lastingIndex lowWarningFlag < k) → has (onAt after l) k ≡ has (onAt before l) k
 
--- a call that may change what is on for lane l: a lasting condition, and a sample of the lane
-unfoldable pub mayTurn : Call → ℕ → Bool
-mayTurn (Write address count) l = false
-mayTurn (Read address count) l = false
-mayTurn (Work m) l = false
-mayTurn (Hardware m) l = false
-mayTurn (Condition flag mask) l = false
-mayTurn (Sample m p) l = eqb m l
-mayTurn (Lasting flag on off) l = true
+-- a call that may change what is on for lane l: a lasting condition, a sample of the lane, and a write that resets the module
+unfoldable pub mayTurn : List ℕ → Call → ℕ → Bool
+mayTurn bytes (Write address count) l = isReset bytes (Write address count)
+mayTurn bytes (Read address count) l = false
+mayTurn bytes (Work m) l = false
+mayTurn bytes (Hardware m) l = false
+mayTurn bytes (Condition flag mask) l = false
+mayTurn bytes (Sample m p) l = eqb m l
+mayTurn bytes (Lasting flag on off) l = true
+mayTurn bytes Module l = false
+mayTurn bytes (Line on) l = false
+
+-- ---- the module's power
+
+-- what a module event may change: the module's state, lower 3.3-1, and lower 8.0
+unfoldable pub moduleSet : Bits
+moduleSet = orIn (covers moduleStateBits) (covers moduleChangedBit)
+
+-- the module went from a state to the next: lower 3 shows it, and 8.0 is set where entering it is flagged; a module that stays changes nothing
+pub record ModuleMoved (from to : ModuleState) (flagged : Bool) (before after : Image) : Type 0 where
+  pub state : get after moduleStateBits ≡ pick (isModuleState from to) (get before moduleStateBits) (moduleCodeOf to)
+  pub flag : get after moduleChangedBit ≡ pick (both (not (isModuleState from to)) flagged) 1 (get before moduleChangedBit)
+
+-- why 8.0 is set: ModuleReady was entered, or ModuleLowPwr while LowPwrS holds
+pub data ChangeFlagged (line : Bool) (before after : Image) : Type 0 where
+  enteredReady : get before moduleStateBits ≢ moduleCodeOf Ready → get after moduleStateBits ≡ moduleCodeOf Ready → ChangeFlagged line before after
+  enteredLowPwr : get before moduleStateBits ≢ moduleCodeOf LowPwr → get after moduleStateBits ≡ moduleCodeOf LowPwr → isLowPower line before ≡ true
+      → ChangeFlagged line before after
+
+-- why LowPwrS holds: the host asks for low power, or it allows the low-power line to ask and the line is on
+pub data LowPowerAsked (line : Bool) (x : Image) : Type 0 where
+  bySoftware : get x lowPwrRequestBit ≡ 1 → LowPowerAsked line x
+  byLine : get x lowPwrAllowBit ≡ 1 → line ≡ true → LowPowerAsked line x
+
+-- why the path g is to be taken down, S: the module is not in ModuleReady, LowPwrS holds, or a lane of the path has its DPDeinit bit
+pub data TakenDown (line : Bool) (x : Image) (g : ℕ) : Type 0 where
+  notReady : get x moduleStateBits ≢ moduleCodeOf Ready → TakenDown line x g
+  lowPower : isLowPower line x ≡ true → TakenDown line x g
+  byHost : (lane : ℕ) → lane < laneCount → has g lane ≡ true → get x (deinitAt lane) ≡ 1 → TakenDown line x g
+
+-- the module is in one of its four states, and dark in every one of them but ModuleReady: all lanes are DPDeactivated
+pub record DarkBelowReady (x : Image) : Type 0 where
+  pub least : 1 ≤ get x moduleStateBits
+  pub most : get x moduleStateBits ≤ 4
+  pub dark : get x moduleStateBits ≢ moduleCodeOf Ready → (l : ℕ) → l < laneCount → get x (stateAt l) ≡ codeOf Deactivated
 
 -- ---- every event
 
--- every byte that an event may change, commands aside: what hosts write, what reads clear (lower 8-9, 11h:134-153),
--- lower 3, 126-127, DPState, received power, ConfigStatus, the active settings (11h:215-216 hold none), DPInitPending
-abbrev pub changedRanges : List Range
-changedRanges =
+-- every byte that an event may change, commands, resets, module and hardware events aside: what hosts write, what reads clear (lower 8-9, 11h:134-153),
+-- 126-127, received power, ConfigStatus, the active settings (11h:215-216 hold none), DPInitPending
+abbrev pub calmRanges : List Range
+calmRanges =
     writableRanges ++ clearedRanges
-    ++ (range moduleState moduleState ∷ range bankSelect pageSelect ∷ rangeOn page11 128 131 ∷ rangeOn page11 186 201 ∷ rangeOn page11 202 205
-    ∷ rangeOn page11 206 214 ∷ rangeOn page11 217 234 ∷ rangeOn page11 235 235 ∷ [])
+    ++ (range bankSelect pageSelect ∷ rangeOn page11 186 201 ∷ rangeOn page11 202 205 ∷ rangeOn page11 206 214 ∷ rangeOn page11 217 234 ∷ rangeOn page11 235 235 ∷ [])
+
+-- .. commands and resets aside: lower 3 and DPState besides
+abbrev pub changedRanges : List Range
+changedRanges = range moduleState moduleState ∷ rangeOn page11 128 131 ∷ calmRanges
 
 -- the length and every byte outside the ranges are as they were
 pub record Kept (changed : List Range) (before after : Image) : Type 0 where

@@ -8,7 +8,7 @@ use Rattle.bits.proofs.Tests.{split}
 use Rattle.model.specs.Map.{Image, pageSelect, applyDPInit, applyImmediate, writable}
 use Rattle.model.specs.State.{State, stateWith}
 use Rattle.model.specs.Pages.{indexOf}
-use Rattle.model.specs.Access.{storedState, byteWrittenState, bytesWrittenState}
+use Rattle.model.specs.Access.{withoutReset, storedState, byteWrittenState, bytesWrittenState}
 use Rattle.model.specs.declared.lane.Trigger.the-variants.{DpInit, Immediate}
 use Rattle.model.specs.declared.lane.Working.{Working}
 use Rattle.laws_sound.specs.Sound.{seenOf, Sound}
@@ -37,7 +37,7 @@ module _ (x y : Image) (w : Working) (S : Sound (seenOf (stateWith x w))) (P : P
       (λ d. split (eqb i applyImmediate)
       (λ m. rw (a, d, m, pick) (triggered-pair x y w S P Immediate v (rw (a, d, m, pick) at T)))
       (λ m. split (writable i)
-      (λ t. rw (a, d, m, t, pick) (changed x y _ _ w P (keeps-set x i v t) (keeps-set y i v t) (alike-set (veiled w) x y i v (P .alike))))
+      (λ t. rw (a, d, m, t, pick) (changed x y _ _ w P (keeps-set x i (withoutReset i v) t) (keeps-set y i (withoutReset i v) t) (alike-set (veiled w) x y i (withoutReset i v) (P .alike))))
       (λ t. rw (a, d, m, t, pick) (record { working = refl; pair = P })))))
 
   byte-pair : (address v : ℕ) → Sound (seenOf (byteWrittenState address v (stateWith x w))) → Paired (byteWrittenState address v (stateWith x w)) (byteWrittenState address v (stateWith y w))

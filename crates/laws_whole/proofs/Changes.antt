@@ -2,6 +2,7 @@
 use mathlib.Core.Path.{_≡_, refl, sym}
 use mathlib.Core.Bool.{Bool, true, false, not}
 use Prim.Native.Nat.{ℕ, _+_, _*_, _/_, _%_, _≤_, _<_}
+use native.Mathlib.Decide.{decLt}
 use native.Mathlib.Omega.{arith}
 use lib.Dec.{ltb}
 use lib.ListN.{getD, set}
@@ -14,14 +15,15 @@ use Rattle.bits.specs.Sets.{has, someIn}
 use Rattle.bits.specs.Word.{putWord}
 use Rattle.bits.specs.declared.Place.{Place}
 use Rattle.bits.proofs.Tests.{both-l, both-r}
-use Rattle.bits.proofs.Loops.{each-two, any-ext}
+use Rattle.bits.proofs.Loops.{each-two, any-ext, all-ext}
 use Rattle.bits.proofs.Members.{any-of-none, any-of-ext}
-use Rattle.model.specs.Map.{Image, stateAt, statusAt, pendingAt, flagAt, interruptBit, steppedBit, receivedPower, clearing, activeSet, FlagPair, flagPairs, lastingCount, lastingFlag, highAlarmLimit, lowAlarmLimit, highWarningLimit, lowWarningLimit, page10, imageLength, page9F, commandCompleteBit, commandStatus, firmwareMajor, firmwareMinor, replyLength, replyCode, messageBody}
+use Rattle.model.specs.Map.{Image, moduleState, moduleStateBits, moduleChangedBit, moduleControls, lowPwrAllowBit, lowPwrRequestBit, kept, keptRanges, setLength, stateAt, statusAt, pendingAt, flagAt, interruptBit, steppedBit, receivedPower, clearing, activeSet, FlagPair, flagPairs, lastingCount, lastingFlag, highAlarmLimit, lowAlarmLimit, highWarningLimit, lowWarningLimit, page10, imageLength, page9F, commandCompleteBit, commandStatus, firmwareMajor, firmwareMinor, replyLength, replyCode, messageBody}
 use Rattle.model.specs.Records.{onLanes}
 use Rattle.model.specs.Registers.{withStatus, withPending, withPathState, withFlags}
 use Rattle.model.specs.Triggers.{isIgnored}
 use Rattle.model.specs.PathStates.{codeOf}
 use Rattle.model.specs.Work.{pendingAfter}
+use Rattle.model.specs.Power.{moduleCodeOf, shownModuleState, isLowPower, isDark, holdsDown, moduleEnteredImage, moduleMovedImage, moduleImage}
 use Rattle.model.specs.Hardware.{someBit, toDeinit, toReinit, toDeactivate, signalsOf, nextState, enteredImage, movedImage, movedPathImage}
 use Rattle.model.specs.Flags.{raisedImage, sampledImage, sampledOn, shownAgainImage, isUnmasked, interrupts, settledImage, conditionImage, power}
 use Rattle.model.specs.Pages.{withPage, pageStart, selectedStart, indexOf, selectedImage}
@@ -35,9 +37,12 @@ use Rattle.model.specs.declared.lane.Working.{Working}
 use Rattle.model.specs.declared.page.PageStart.{PageStart}
 use Rattle.model.specs.declared.page.PageStart.the-variants.{Unsupported, At}
 use Rattle.model.specs.declared.path.PathState.{PathState}
+use Rattle.model.specs.declared.power.ModuleState.{ModuleState}
 use Rattle.laws_frames.proofs.Outside.{get-same}
 use Rattle.laws_frames.proofs.Registers.{pending-same, state-same, word-same, lane-to}
 use Rattle.laws_frames.specs.Frames.{SameWithin}
+use Rattle.laws_frames.proofs.Ranges.{apartFrom, not-in}
+use Rattle.laws_frames.proofs.Starting.{SameKept}
 use Rattle.laws_frames.proofs.Commands.{sum-ext, status-of-same, reply-same}
 use Rattle.laws_whole.specs.Whole.{activeBitOf, Alike}
 use Rattle.laws_whole.proofs.Agree.{alike-put, alike-set, alike-puts, alike-below, alike-above}
@@ -113,6 +118,10 @@ module _ (except : ℕ → ℕ → Bool) where
   alike-completed : (status : CommandStatus) (x y : Image) → Alike except x y → Alike except (completedImage status x) (completedImage status y)
   unfolding completedImage
   alike-completed status x y A = alike-put except _ _ commandCompleteBit 1 (alike-set except x y commandStatus (statusCode status) A)
+
+  alike-module-entered : (to : ModuleState) (p : Bool) (x y : Image) → Alike except x y → Alike except (moduleEnteredImage to p x) (moduleEnteredImage to p y)
+  unfolding moduleEnteredImage
+  alike-module-entered to p x y A = alike-only _ _ _ _ (alike-put except _ _ moduleChangedBit 1) (alike-put except x y moduleStateBits (moduleCodeOf to) A)
 
 -- ---- active-setting bits of the lanes of c may differ: everything else that is looked at is the same
 
@@ -199,6 +208,42 @@ module _ (c : ℕ → Bool) (x y : Image) (A : Alike (activeBitOf c) x y) where
 
   pub state-read : (l : ℕ) → l < 8 → get y (stateAt l) ≡ get x (stateAt l)
   state-read l b = state-same x y l b (λ i a h. low i (omega arith))
+
+  -- ---- the module's power: it looks at lower 3 and 26, and at DPState
+
+  module-state-same : shownModuleState y ≡ shownModuleState x
+  unfolding shownModuleState
+  module-state-same = rw (get-same x y moduleStateBits (low moduleState (omega arith)))
+
+  low-power-same : (line : Bool) → isLowPower line y ≡ isLowPower line x
+  unfolding isLowPower
+  low-power-same line = rw (get-same x y lowPwrRequestBit (low moduleControls (omega arith)), get-same x y lowPwrAllowBit (low moduleControls (omega arith)))
+
+  dark-same : isDark y ≡ isDark x
+  unfolding isDark
+  dark-same = all-ext 8 _ _ (λ l b. rw (state-read l b))
+
+  pub down-same : (line : Bool) → holdsDown line y ≡ holdsDown line x
+  unfolding holdsDown
+  down-same line = rw (module-state-same, low-power-same line)
+
+  pub alike-module : (line : Bool) → Alike (activeBitOf c) (moduleImage line x) (moduleImage line y)
+  unfolding moduleImage moduleMovedImage
+  alike-module line = rw (module-state-same, low-power-same line, dark-same)
+      (alike-only (activeBitOf c) _ (moduleEnteredImage _ (isLowPower line x)) x y (alike-module-entered (activeBitOf c) _ (isLowPower line x) x y) A)
+
+  -- what start keeps is no active setting
+  pub kept-same : SameKept x y
+  unfolding kept apartFrom both either
+  kept-same i k = elim (decLt i activeSet) [
+    | yes b ↦ low i b
+    | no b ↦ elim (decLt i (activeSet + setLength)) [
+      | yes h ↦ absurd (not-in activeSet (activeSet + setLength) keptRanges i refl (omega arith) h k)
+      | no h ↦ sym (alike-above c x y A i (omega arith))
+    ]
+  ]
+
+  -- ---- a path's signals
 
   some-same : (place : ℕ → Place) (g : ℕ) → ((m : ℕ) → m < 8 → get y (place m) ≡ get x (place m)) → someBit y place g ≡ someBit x place g
   unfolding someBit someIn

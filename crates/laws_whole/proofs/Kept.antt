@@ -13,6 +13,7 @@ use Rattle.model.specs.Records.{stageAt}
 use Rattle.model.specs.Registers.{withStatus, withPending}
 use Rattle.model.specs.Work.{pendingAfter}
 use Rattle.model.specs.Hardware.{hardwareImage}
+use Rattle.model.specs.Power.{moduleImage}
 use Rattle.model.specs.Flags.{isConditionFlag, conditionImage, sampledImage, shownAgainImage, settledImage}
 use Rattle.model.specs.Pages.{selectedImage}
 use Rattle.model.specs.Commands.{commandImage}
@@ -24,7 +25,7 @@ use Rattle.model.specs.State.{stateWith}
 use Rattle.laws_whole.specs.Whole.{activeBitOf, Alike}
 use Rattle.laws_frames.proofs.Registers.{advertised-below, settings-same, applications-same}
 use Rattle.laws_frames.proofs.Changes.{status-outside, pending-outside, off-advertised, hardware-off}
-use Rattle.laws_sound.proofs.Quiet.{Quiet, advertised-kept, lane-kept, set-quiet, selected-quiet, settled-quiet, sampled-quiet, condition-quiet, cleared-quiet, shown-quiet, command-quiet}
+use Rattle.laws_sound.proofs.Quiet.{Quiet, advertised-kept, lane-kept, set-quiet, selected-quiet, settled-quiet, module-quiet, sampled-quiet, condition-quiet, cleared-quiet, shown-quiet, command-quiet}
 use Rattle.laws_frames.specs.Frames.{SameOutside, SameWithin, SameAdvertised, SameOffPath}
 use Rattle.laws_whole.proofs.Pairs.{veiled, Waits, Pair, Paired}
 
@@ -126,6 +127,9 @@ keeps-condition flag mask y e = keeps-quiet (condition-quiet flag mask y e)
 
 pub keeps-sample : (l p : ℕ) (y : Image) → l < 8 → Keeps y (sampledImage l p y)
 keeps-sample l p y b = keeps-quiet (sampled-quiet l p y b)
+
+pub keeps-module : (line : Bool) (y : Image) → Keeps y (moduleImage line y)
+keeps-module line y = keeps-quiet (module-quiet line y)
 
 pub keeps-ended : (address n : ℕ) (y : Image) → Keeps y (onlyIf (runsCommand address n y) commandImage y)
 keeps-ended address n y = keeps-only (runsCommand address n y) commandImage y (keeps-quiet (command-quiet y))

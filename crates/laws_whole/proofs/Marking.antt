@@ -46,6 +46,7 @@ module _ (x y : Image) (w : Working) (S : Sound (seenOf (stateWith x w))) (P : P
   workings = λ i. record {
     lanes = tab-ext 8 (λ l. withStage (recordAt w l) (stageAfter t (viewOf stagedSet0 y) w selected l))
         (λ l. withStage (recordAt w l) (stageAfter t (viewOf stagedSet0 x) w selected l)) (λ l b. ap (withStage (recordAt w l)) (sym (stages l b))) i;
+    line = w .line;
   }
 
   -- a lane that is not marked keeps its stage

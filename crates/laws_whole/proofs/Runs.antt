@@ -1,13 +1,13 @@
 -- Both runs, step by step from a start. Of the run it is used that a start is sound and that every step keeps it so.
 use mathlib.Core.Path.{_≡_, refl, sym, subst}
+use mathlib.Core.Bool.{false}
 use mathlib.Core.List.{[]}
 use Prim.Native.Nat.{ℕ}
 use lib.ListN.{getD}
 use Rattle.bits.specs.Choice.{pick}
 use Rattle.bits.proofs.Tests.{split, clash}
 use Rattle.bits.proofs.Places.{image-ext}
-use Rattle.bits.proofs.Loops.{length-tab}
-use Rattle.model.specs.Map.{Image, imageLength}
+use Rattle.model.specs.Map.{Image}
 use Rattle.model.specs.Answers.{isDone}
 use Rattle.model.specs.State.{State, stateWith}
 use Rattle.model.specs.Work.{early, late}
@@ -17,15 +17,13 @@ use Rattle.model.specs.Step.{Stepped, doneStep, refusedStep, answeredStep, step
 use Rattle.model.specs.declared.event.Call.{Call}
 use Rattle.model.specs.declared.event.Event.{Event}
 use Rattle.model.specs.declared.lane.Working.{Working}
-use Rattle.laws_frames.proofs.Stages.{idle-stage}
 use Rattle.laws_sound.proofs.Quiet.{Well}
 use Rattle.laws_sound.proofs.Steps.{step-well}
 use Rattle.laws_sound.proofs.Starting.{start-well}
 use Rattle.laws_whole.specs.Whole.{hidden, Alike, SameState, hiddenRead, Reached, begun, then}
 use Rattle.laws_whole.proofs.Agree.{alike-refl, alike-weaken, of-none}
-use Rattle.laws_sound.proofs.Stranger.{not-idle}
 use Rattle.laws_whole.proofs.Pairs.{passed, passing-busy, veiled, Pair, Paired}
-use Rattle.laws_whole.proofs.Events.{hidden-veiled, settled-pair, refusals-same, carried-pair}
+use Rattle.laws_whole.proofs.Events.{hidden-veiled, fresh-pair, settled-pair, refusals-same, carried-pair}
 
 -- ---- one step of both runs, given that the run's states are sound
 
@@ -52,10 +50,7 @@ same-state s a Q = record {
 
 start-pair : (x : Image) → Paired (startedState x) (startedState x)
 unfolding startedState
-start-pair x = record {
-  working = refl;
-  pair = record { size = length-tab imageLength _; alike = alike-refl _ _; waits = λ l n p b e q. absurd (not-idle (idle-stage l b) e) };
-}
+start-pair x = fresh-pair x false
 
 both-states : (room : ℕ) (e : Event) (x y : Image) (w : Working) (two : ℕ) → Well two (stateWith x w) → Pair x y w
     → Both (stateWith x w) (e .call) (step early room (stateWith x w) e) (step late room (stateWith y w) e)

@@ -1,6 +1,6 @@
 -- DEMAND 3: public calls after a start are the run in which each accepted group is carried out whole at its closing step. specs/Whole says what is the same.
-use mathlib.Core.Path.{_≡_, refl, ap₂}
-use mathlib.Core.Bool.{false}
+use mathlib.Core.Path.{_≡_, refl, sym, ap, ap₂, _∙_}
+use mathlib.Core.Bool.{true, false}
 use mathlib.Core.List.{List, [], _∷_, map}
 use mathlib.Core.Logic.{_⊎_, inl, inr}
 use Prim.Native.Nat.{ℕ, _+_, _≤_, _<_}
@@ -11,16 +11,23 @@ use Rattle.model.specs.Records.{stageAt, isInProgress}
 use Rattle.model.specs.View.{settingsAt}
 use Rattle.model.specs.State.{State}
 use Rattle.model.specs.Work.{early, late}
-use Rattle.model.specs.Step.{readCount, step}
+use Rattle.model.specs.Start.{resetState}
+use Rattle.model.specs.Step.{event, readCount, Stepped, eventEffect, step}
 use Rattle.model.specs.Outcome.{Outcome, startOutcome, stepOutcome}
+use Rattle.model.specs.declared.answer.Answer.the-variants.{Done}
+use Rattle.model.specs.declared.event.Call.the-variants.{Write}
 use Rattle.model.specs.declared.event.Event.{Event}
 use Rattle.laws.specs.Calls.{Called, outcomeAt, outcomes, stateAfter}
 use Rattle.laws.proofs.Reading.{step-reads}
+use Rattle.laws_frames.specs.Frames.{isReset}
 use Rattle.laws_frames.proofs.Registers.{settings-at-same}
+use Rattle.laws_step.proofs.Writing.{write-resets}
 use Rattle.laws_sound.specs.Reached.{Accepted, StartDone, reachedBy, along, through}
+use Rattle.laws_sound.proofs.Starting.{start-blank, idle-lane}
 use Rattle.laws_sound.proofs.Reached.{start-leaves, start-accepted, still-accepted, call-is-step}
-use Rattle.laws_whole.specs.Whole.{wholeAt, comparedBy, hidden, SameState, SameStep, SameOutcome, Reached, begun, then}
+use Rattle.laws_whole.specs.Whole.{wholeAt, comparedBy, hidden, SameState, ResetInBoth, Fresh, SameStep, SameOutcome, Reached, begun, then}
 use Rattle.laws_whole.proofs.Agree.{alike-below, alike-above, alike-setting}
+use Rattle.laws_whole.proofs.Events.{reset-same}
 use Rattle.laws_whole.proofs.Runs.{same-state, both-step, reached-twin}
 use Rattle.laws_whole.proofs.Buffers.{same-buffer, untouched-buffer}
 
@@ -111,3 +118,36 @@ module _ (x : Image) (d : StartDone x) (cs : List Called) where
 
   pub demand-3-masks : map (λ (o : Outcome). o .mask) (outcomes (startOutcome x .state) cs) ≡ map (λ (o : Outcome). o .mask) (along wholeAt (startOutcome x .state) cs)
   demand-3-masks = beside-all (λ o. o .mask) (λ s c o p S. S .mask) cs _ _ (beside-start x d)
+
+-- ---- after a reset: one state in both runs, and nothing of what was under way
+
+-- whatever state is reset
+pub reset-fresh : (s : State) → Fresh (resetState s)
+unfolding resetState
+reset-fresh s = record { idle = idle-lane (s .working .line); blank = start-blank (s .image) }
+
+module _ (x : Image) (d : StartDone x) (cs : List Called) (address count : ℕ) (bytes buffer : List ℕ) where
+  -- a write after the calls
+  abbrev write : Called
+  write = record { event = event (Write address count) bytes; buffer = buffer }
+
+  -- a write does not look at the mode
+  write-whole : (a : State) → step late (length buffer) a (event (Write address count) bytes) ≡ step early (length buffer) a (event (Write address count) bytes)
+  unfolding step eventEffect
+  write-whole a = refl
+
+  -- one that is done and resets the module
+  pub demand-3-reset : isReset bytes (Write address count) ≡ true → outcomeAt (reachedBy x cs) write .answer ≡ Done
+      → ResetInBoth (reachedBy x cs) (outcomeAt (reachedBy x cs) write .state) (wholeAt (comparedBy x cs) write .state)
+  unfolding stepOutcome
+  demand-3-reset r done =
+      let s = reachedBy x cs in
+      let a = comparedBy x cs in
+      let B = beside-calls cs _ _ (beside-start x d) in
+      let k = call-is-step s write (B .accepted) in
+      let e = sym (ap (λ (o : Outcome). o .answer) k) ∙ done in
+      let w = ap (λ (o : Stepped). o .answer) (sym (write-whole a)) ∙ sym (whole-steps (B .reached) (length buffer) (event (Write address count) bytes) .answer) ∙ e in
+      record {
+        calls = ap (λ (o : Outcome). o .state) k ∙ write-resets (length buffer) s bytes address count e r;
+        whole = ap (λ (o : Stepped). o .state) (write-whole a) ∙ write-resets (length buffer) a bytes address count w r ∙ reset-same s a (reached-twin (B .reached) .paired);
+      }

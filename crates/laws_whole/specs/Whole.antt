@@ -10,11 +10,12 @@ use Rattle.bits.specs.Loop.{anyBelow}
 use Rattle.bits.specs.Place.{digit, covers}
 use Rattle.model.specs.Map.{Image, settingCount, settingAt, activeSet}
 use Rattle.bits.specs.Sets.{laneCount}
-use Rattle.model.specs.Records.{stageAt, isInProgress}
+use Rattle.model.specs.Records.{noSettings, stageAt, isInProgress}
+use Rattle.model.specs.View.{settingsAt}
 use Rattle.model.specs.State.{State}
 use Rattle.model.specs.Work.{early, late}
 use Rattle.model.specs.Pages.{indexOf}
-use Rattle.model.specs.Start.{startedState}
+use Rattle.model.specs.Start.{startedState, resetState}
 use Rattle.model.specs.Step.{readCount, readAddress, Stepped, step}
 use Rattle.model.specs.Outcome.{Outcome, startOutcome, stepOutcome}
 use Rattle.model.specs.declared.event.Call.{Call}
@@ -81,6 +82,18 @@ pub record SameOutcome (s : State) (c : Called) (o p : Outcome) : Type 0 where
   pub mask : o .mask ≡ p .mask
   pub buffer : SameBuffer (hiddenRead s (c .event .call)) (readCount (c .event .call)) (c .buffer) (o .buffer) (p .buffer)
   pub state : SameState (o .state) (p .state)
+
+-- ---- a reset
+
+-- a write that resets a state leaves both runs in one: the start of what is kept, with the low-power line as it was
+pub record ResetInBoth (s o p : State) : Type 0 where
+  pub calls : o ≡ resetState s
+  pub whole : p ≡ resetState s
+
+-- a fresh start: no lane is in progress, and every active setting is 0, so that an Apply that was cut off was never carried out
+pub record Fresh (s : State) : Type 0 where
+  pub idle : NoneInProgress (s .working)
+  pub blank : (l : ℕ) → l < laneCount → settingsAt activeSet (s .image) l ≡ noSettings
 
 -- ---- inside: steps that ask for 1, 2 and 3 no more, and the states that they reach from any start
 

@@ -42,9 +42,9 @@ last-first a b c d = rw (either-none d, either-none a)
     (either-comm a (either b (either c d)) ∙ ap (λ t. either t a) (either-comm b (either c d)) ∙ ap (λ t. either (either t b) a) (either-comm c d)
     ∙ either-assoc (either d c) b a ∙ either-assoc d c (either b a))
 
--- the first of eight tests goes to the end, and the three that stood there turn round
-pub reordered : (p a b c d g f e : Bool)
-    → either p (either a (either b (either c (either d (either g (either f (either e false)))))))
-    ≡ either a (either b (either c (either d (either e (either f (either g (either p false)))))))
-reordered p a b c d g f e =
-    past p a _ ∙ ap (either a) (past p b _ ∙ ap (either b) (past p c _ ∙ ap (either c) (past p d _ ∙ ap (either d) (last-first p g f e))))
+-- the first of nine tests goes to the end, and the three that stood there turn round
+pub reordered : (p z a b c d g f e : Bool)
+    → either p (either z (either a (either b (either c (either d (either g (either f (either e false))))))))
+    ≡ either z (either a (either b (either c (either d (either e (either f (either g (either p false))))))))
+reordered p z a b c d g f e =
+    past p z _ ∙ ap (either z) (past p a _ ∙ ap (either a) (past p b _ ∙ ap (either b) (past p c _ ∙ ap (either c) (past p d _ ∙ ap (either d) (last-first p g f e)))))

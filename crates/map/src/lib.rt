@@ -4,6 +4,7 @@ ghost use Prim.Native.Nat.{_+_, _≤_, _<_};
 ghost use lib.Dec.{leb, ltb};
 ghost use Rattle.bits.specs.Choice.{both};
 ghost use Rattle.model.specs.Map.{imageLength, pageLength, on, flagBytes, flagByteCount, lastingCount, lastingFlag, lastingIndex, writable, clearing, kept};
+ghost use Rattle.model.specs.Access.{withoutReset};
 
 // The image: lower memory, then six pages; a page's addresses start at UPPER.
 pub const IMAGE_LENGTH: usize = 896;
@@ -31,6 +32,11 @@ pub const MODULE_STATE: usize = 3;
 pub const MODULE_FLAGS: usize = 8;
 
 pub const LAST_MODULE_FLAGS: usize = 9;
+
+// Lower 26: controls of the whole module, with SoftwareReset in bit 3.
+pub const MODULE_CONTROLS: usize = 26;
+
+pub const SOFTWARE_RESET: u8 = 3;
 
 // Page 02h: the limits of received power, two bytes each, in 0.1 µW.
 pub const HIGH_ALARM: usize = PAGE_02 + (192 - 128);
@@ -142,6 +148,7 @@ pub fn writable(i: usize) -> bool
     ensures { λ r. ⌜ r ≡ writable i ⌝ }
 {
     on_page(i, PAGE_9F, 128, 255)
+        | within(i, 26, 26)
         | within(i, 31, 36)
         | within(i, 126, 126)
         | on_page(i, PAGE_10, 128, 132)
@@ -149,6 +156,16 @@ pub fn writable(i: usize) -> bool
         | on_page(i, PAGE_10, 213, 232)
         | on_page(i, PAGE_10, 156, 173)
         | on_page(i, PAGE_10, 145, 153)
+}
+
+// A byte written to an index, or shown of it, without SoftwareReset, which is neither stored nor shown.
+pub fn without_reset(i: usize, v: u8) -> u8
+    ensures { λ r. ⌜ r ≡ withoutReset i v ⌝ }
+{
+    if i == MODULE_CONTROLS {
+        return bits::put_field(v, SOFTWARE_RESET, 1, 0);
+    }
+    v
 }
 
 // Whether a read clears a byte.

@@ -1,7 +1,7 @@
 -- What every edition of the night file keeps to. Assumes nothing.
 use mathlib.Core.Path.{_≡_, refl, sym, ap, _∙_}
 use mathlib.Core.Bool.{Bool, true}
-use mathlib.Core.List.{List, [], _∷_}
+use mathlib.Core.List.{List, [], _∷_, _++_}
 use Prim.Native.Nat.{ℕ, zero, suc, _≤_, _<_}
 use native.Mathlib.Omega.{arith}
 use lib.Dec.{eqb, leb, ltb}
@@ -12,7 +12,7 @@ use Rattle.bits.specs.Choice.{both}
 use Rattle.bits.proofs.Tests.{both-l, both-r, pick-has}
 use Rattle.model.specs.Numbers.{Bytes, Count}
 use Rattle.model.specs.Map.{imageLength}
-use Rattle.model.specs.File.{Edition, formsWith, firstEdition, laterEditions, editionAmong, firstBytes, laidOut}
+use Rattle.model.specs.File.{Form, Edition, formsWith, powerForms, firstEdition, laterEditions, editionAmong, firstBytes, laidOut}
 use Rattle.model.specs.declared.event.Call.{Call}
 
 -- ---- what every row has, the edition of any number has
@@ -42,17 +42,18 @@ pub edition-fits : (n : ℕ) → editionAmong laterEditions n .imageBytes ≤ im
 unfolding carriesImage
 edition-fits n = leb-true _ _ (both-r _ _ (carries n))
 
--- its records have the six forms
+-- its records have the six forms, and others after them
 pub record HasSixForms (e : Edition) : Type 0 where
   pub conditionUses : Count
   pub conditionCall : Bytes → Call
-  pub forms : e .forms ≡ formsWith conditionUses conditionCall
+  pub others : List Form
+  pub forms : e .forms ≡ formsWith conditionUses conditionCall ++ others
 
-as-written : {m n uses : Count} {call : Bytes → Call} → HasSixForms (record { number = m; imageBytes = n; forms = formsWith uses call })
-as-written {m} {n} {uses} {call} = record { conditionUses = uses; conditionCall = call; forms = refl }
+with-six : {m n uses : Count} {call : Bytes → Call} (others : List Form) → HasSixForms (record { number = m; imageBytes = n; forms = formsWith uses call ++ others })
+with-six {m} {n} {uses} {call} others = record { conditionUses = uses; conditionCall = call; others = others; forms = refl }
 
 pub six-forms : (n : ℕ) → HasSixForms (editionAmong laterEditions n)
-six-forms n = among-has HasSixForms n laterEditions (search (row, first, as-written))
+six-forms n = among-has HasSixForms n laterEditions (row (with-six []) (row (with-six []) (row (with-six powerForms) (first (with-six [])))))
 
 -- ---- an image of today's length
 

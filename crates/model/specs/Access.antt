@@ -1,18 +1,24 @@
 -- Host accesses, byte by byte in address order (01 "Host accesses").
-use Prim.Native.Nat.{suc, _+_}
+use Prim.Native.Nat.{suc, _+_, _-_}
 use mathlib.Core.Bool.{Bool}
 use mathlib.Core.List.{[], _∷_}
 use lib.Dec.{eqb, leb, ltb}
 use lib.ListN.{getD, set}
 use Rattle.bits.specs.Choice.{pick, onlyIf, both, either}
 use Rattle.bits.specs.Loop.{each, tab}
+use Rattle.bits.specs.Number.{field, withField}
 use Rattle.model.specs.Numbers.{Byte, Bytes, Count, Index, Address}
-use Rattle.model.specs.Map.{Image, page9F, runAddress, pageSelect, applyDPInit, applyImmediate, stagedSet0, writable, clearing}
+use Rattle.model.specs.Map.{Image, page9F, runAddress, moduleControls, softwareResetBit, pageSelect, applyDPInit, applyImmediate, stagedSet0, writable, clearing}
 use Rattle.model.specs.State.{State, withImage}
 use Rattle.model.specs.Triggers.{triggeredState}
 use Rattle.model.specs.Pages.{selectedStart, indexOf, selectedImage}
 use Rattle.model.specs.Commands.{commandImage}
+use Rattle.model.specs.Start.{resetState}
 use Rattle.model.specs.declared.lane.Trigger.the-variants.{DpInit, Immediate}
+
+-- lower 26.3, SoftwareReset, is never stored and reads as 0 (02 Req 04)
+unfoldable pub withoutReset : Index → Byte → Byte
+withoutReset i v = pick (eqb i moduleControls) (withField v (softwareResetBit .shift) 1 0) v
 
 -- ---- writing
 
@@ -22,7 +28,7 @@ storedState i v s =
     pick (eqb i pageSelect) (withImage s (selectedImage v (s .image)))
     (pick (eqb i applyDPInit) (triggeredState DpInit stagedSet0 s v)
     (pick (eqb i applyImmediate) (triggeredState Immediate stagedSet0 s v)
-    (pick (writable i) (withImage s (set (s .image) i v)) s)))
+    (pick (writable i) (withImage s (set (s .image) i (withoutReset i v))) s)))
 
 -- a byte written to an address
 unfoldable pub byteWrittenState : Address → Byte → State → State
@@ -43,15 +49,21 @@ writes address n a = both (leb address a) (ltb a (address + n))
 unfoldable pub runsCommand : Address → Count → Image → Bool
 runsCommand address n x = both (writes address n runAddress) (eqb (selectedStart x) page9F)
 
--- what a write does after its last byte
-unfoldable pub endedState : Address → Count → State → State
-endedState address n s = withImage s (onlyIf (runsCommand address n (s .image)) commandImage (s .image))
+-- it resets the module: it writes lower 26 with SoftwareReset at 1 (02 Req 04)
+unfoldable pub resets : Address → Bytes → Count → Bool
+resets address bytes n =
+    both (writes address n moduleControls) (eqb (field (getD bytes (moduleControls - address) 0) (softwareResetBit .shift) 1) 1)
+
+-- what a write of n bytes does after its last byte: the command that it runs, or the reset that it asks for
+unfoldable pub endedState : Address → Bytes → Count → State → State
+endedState address bytes n s =
+    pick (resets address bytes n) (resetState s) (withImage s (onlyIf (runsCommand address n (s .image)) commandImage (s .image)))
 
 -- ---- reading
 
 -- what a read shows of a byte: the triggers read as 0
 unfoldable pub shownByte : Image → Index → Byte
-shownByte x i = pick (either (eqb i applyDPInit) (eqb i applyImmediate)) 0 (getD x i 0)
+shownByte x i = pick (either (eqb i applyDPInit) (eqb i applyImmediate)) 0 (withoutReset i (getD x i 0))
 
 -- the values of the n bytes from index i on, taken before any is cleared
 unfoldable pub takenBytes : Image → Index → Count → Bytes

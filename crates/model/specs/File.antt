@@ -1,7 +1,7 @@
 -- The night file: header, image, records (01 "The night file").
 use Prim.Native.Nat.{zero, suc, _+_, _*_}
 use mathlib.Core.Bool.{Bool}
-use mathlib.Core.List.{List, [], _∷_}
+use mathlib.Core.List.{List, [], _∷_, _++_}
 use lib.Dec.{eqb, leb, ltb}
 use lib.ListN.{length, getD, take, drop}
 use Rattle.bits.specs.Choice.{pick, both, implies}
@@ -14,7 +14,7 @@ use Rattle.model.specs.Refusals.{firstOf, startRefusals}
 use Rattle.model.specs.declared.answer.Answer.{Answer}
 use Rattle.model.specs.declared.answer.Answer.the-variants.{Malformed}
 use Rattle.model.specs.declared.event.Call.{Call}
-use Rattle.model.specs.declared.event.Call.the-variants.{Write, Read, Work, Hardware, Condition, Sample, Lasting}
+use Rattle.model.specs.declared.event.Call.the-variants.{Write, Read, Work, Hardware, Condition, Sample, Lasting, Module, Line}
 use Rattle.model.specs.declared.event.Event.{Event}
 use Rattle.model.specs.declared.file.FileCheck.{FileCheck}
 use Rattle.model.specs.declared.file.FileCheck.the-variants.{Refused, Good}
@@ -50,6 +50,12 @@ conditionKind = 5
 
 abbrev pub sampleKind : Byte
 sampleKind = 6
+
+abbrev pub moduleKind : Byte
+moduleKind = 7
+
+abbrev pub lineKind : Byte
+lineKind = 8
 
 -- a record carries at most 8 data bytes, from its fourth on
 abbrev pub dataStart : Count
@@ -94,11 +100,21 @@ firstEdition = record { number = 1; imageBytes = 768; forms = firstForms }
 abbrev pub lastingCall : Bytes → Call
 lastingCall bytes = Lasting (getD bytes 1 0) (getD bytes 2 0) (getD bytes 3 0)
 
--- every edition from the second on: the second carries page 9Fh (02 Req 01), in the third conditions last (02 Req 02)
+-- the low-power line, 1 on or 0 off; any other byte says nothing, and none of the record is used
+unfoldable pub lineBytes : Bytes → Count
+lineBytes bytes = pick (ltb (getD bytes 1 0) 2) 2 0
+
+-- the module event and the event of the line
+abbrev pub powerForms : List Form
+powerForms = form moduleKind (λ bytes. 1) (λ bytes. Module) ∷ form lineKind lineBytes (λ bytes. Line (eqb (getD bytes 1 0) 1)) ∷ []
+
+-- every edition from the second on: the second carries page 9Fh (02 Req 01), in the third conditions last (02 Req 02), the fourth has events of the module's
+-- power (02 Req 04)
 abbrev pub laterEditions : List Edition
 laterEditions =
     record { number = 2; imageBytes = 896; forms = firstForms }
     ∷ record { number = 3; imageBytes = 896; forms = formsWith 4 lastingCall }
+    ∷ record { number = 4; imageBytes = 896; forms = formsWith 4 lastingCall ++ powerForms }
     ∷ []
 
 -- the edition of a number; the first where no later one has it

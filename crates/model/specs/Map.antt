@@ -57,9 +57,12 @@ flatBit = record { byte = 2; shift = 7; width = 1 }
 abbrev pub steppedBit : Place
 steppedBit = record { byte = 2; shift = 6; width = 1 }
 
--- byte 3: the module's state, and in bit 0 InterruptDeasserted (002 table 8-6)
+-- byte 3: the module's state in bits 3-1, and in bit 0 InterruptDeasserted (002 tables 8-6 and 8-7)
 abbrev pub moduleState : Index
 moduleState = 3
+
+abbrev pub moduleStateBits : Place
+moduleStateBits = record { byte = moduleState; shift = 1; width = 3 }
 
 abbrev pub interruptBit : Place
 interruptBit = record { byte = moduleState; shift = 0; width = 1 }
@@ -71,9 +74,26 @@ moduleFlags = 8
 abbrev pub moduleMasks : Index
 moduleMasks = 31
 
+-- 8.0 ModuleStateChangedFlag: the module has come to ModuleReady, or to ModuleLowPwr to stay
+abbrev pub moduleChangedBit : Place
+moduleChangedBit = record { byte = moduleFlags; shift = 0; width = 1 }
+
 -- 8.6 CdbCmdCompleteFlag1: a command message was carried out or failed
 abbrev pub commandCompleteBit : Place
 commandCompleteBit = record { byte = moduleFlags; shift = 6; width = 1 }
+
+-- 26: controls of the whole module, among them LowPwrAllowRequestHW, LowPwrRequestSW and SoftwareReset (002 table 8-11)
+abbrev pub moduleControls : Index
+moduleControls = 26
+
+abbrev pub lowPwrAllowBit : Place
+lowPwrAllowBit = record { byte = moduleControls; shift = 6; width = 1 }
+
+abbrev pub lowPwrRequestBit : Place
+lowPwrRequestBit = record { byte = moduleControls; shift = 4; width = 1 }
+
+abbrev pub softwareResetBit : Place
+softwareResetBit = record { byte = moduleControls; shift = 3; width = 1 }
 
 -- 37 CdbStatus1: what became of the last command message (002 table 8-13)
 abbrev pub commandStatus : Index
@@ -185,9 +205,9 @@ pub record FlagPair : Type 0 where
   pub mask : Index
   pub bits : Byte
 
--- lower 8.6 and its mask 31.6, no other bit of the two (02 Req 01)
+-- lower 8.6 and 8.0 with their masks 31.6 and 31.0, no other bit of the two (02 Req 01, Req 04)
 abbrev pub modulePair : FlagPair
-modulePair = record { flag = moduleFlags; mask = moduleMasks; bits = 0x40 }
+modulePair = record { flag = moduleFlags; mask = moduleMasks; bits = 0x41 }
 
 -- the flags that may pull the interrupt, with their masks: those of the module, and every bit of 11h:134-153 (01 "Host accesses")
 abbrev pub flagPairs : List FlagPair
@@ -335,10 +355,10 @@ unfoldable pub inRanges : List Range → Index → Bool
 inRanges [] i = false
 inRanges (r ∷ rs) i = either (both (leb (r .from) i) (leb i (r .to))) (inRanges rs i)
 
--- bytes that keep what is written to them; 127 has a rule of its own besides (01 "Host accesses")
+-- bytes that keep what is written to them, lower 26 all but SoftwareReset (02 Req 04); 127 has a rule of its own besides (01 "Host accesses")
 abbrev pub writableRanges : List Range
 writableRanges =
-    range 31 36 ∷ range bankSelect bankSelect ∷ rangeOn page10 128 132 ∷ rangeOn page10 137 139 ∷ rangeOn page10 145 153
+    range moduleControls moduleControls ∷ range 31 36 ∷ range bankSelect bankSelect ∷ rangeOn page10 128 132 ∷ rangeOn page10 137 139 ∷ rangeOn page10 145 153
     ∷ rangeOn page10 156 173 ∷ rangeOn page10 213 232 ∷ rangeOn page9F 128 255 ∷ []
 
 unfoldable pub writable : Index → Bool

@@ -1,4 +1,4 @@
--- The lanes' records: reading them, replacing their stages, and what is on (01 "The module we ship", 02 Req 02).
+-- The lanes' records: reading them, replacing their stages, and what is on; and the low-power line beside them (01 "The module we ship", 02 Req 02, Req 04).
 use mathlib.Core.Bool.{Bool, true, false}
 use mathlib.Core.List.{List}
 use lib.ListN.{getD}
@@ -22,8 +22,13 @@ noSettings = record { config = 0; adaptive = 0; equalizer = 0; «cdr_tx» = 0; �
 abbrev pub idleRecord : LaneRecord
 idleRecord = record { stage = Idle; on = 0 }
 
+-- all lanes idle with nothing on, beside the low-power line as it is
+abbrev pub idleWith : Bool → Working
+idleWith line = record { lanes = tab laneCount (λ l. idleRecord); line = line }
+
+-- .. off, as at start
 abbrev pub idleWorking : Working
-idleWorking = record { lanes = tab laneCount (λ l. idleRecord) }
+idleWorking = idleWith false
 
 -- ---- reading
 
@@ -72,7 +77,11 @@ unfoldable pub withOn : LaneRecord → OnBits → LaneRecord
 withOn r bits = record { stage = r .stage; on = bits }
 
 abbrev pub withLanes : Working → List LaneRecord → Working
-withLanes w rs = record { lanes = rs }
+withLanes w rs = record { lanes = rs; line = w .line }
+
+-- the low-power line set
+abbrev pub withLine : Working → Bool → Working
+withLine w on = record { lanes = w .lanes; line = on }
 
 -- every lane's stage replaced
 unfoldable pub withStages : Working → (Lane → Stage) → Working

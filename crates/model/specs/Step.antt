@@ -1,14 +1,15 @@
 -- One event, and a run of events. A step asks for the refusals 4, 8, 5, 7 and 6; it is begun at a start, or at a state that was found sound.
-use mathlib.Core.Bool.{false}
 use mathlib.Core.List.{List, [], _∷_}
 use lib.ListN.{take}
 use Rattle.bits.specs.Choice.{pick}
 use Rattle.bits.specs.Sets.{LaneSet}
 use Rattle.model.specs.Numbers.{Bytes, Count, Index, Address}
 use Rattle.model.specs.Answers.{isDone}
-use Rattle.model.specs.State.{State, withImage}
+use Rattle.model.specs.Records.{withLine}
+use Rattle.model.specs.State.{State, stateWith, withImage}
 use Rattle.model.specs.Effect.{Effect, onState}
 use Rattle.model.specs.Work.{Mode, workEffect}
+use Rattle.model.specs.Power.{holdsDown, moduleImage}
 use Rattle.model.specs.Hardware.{hardwareImage}
 use Rattle.model.specs.Flags.{conditionImage, lastingState, sampledState, shownAgainImage, settledImage}
 use Rattle.model.specs.Pages.{indexOf}
@@ -16,7 +17,7 @@ use Rattle.model.specs.Access.{bytesWrittenState, endedState, takenBytes
 use Rattle.model.specs.Refusals.{firstOf, eventRefusals}
 use Rattle.model.specs.declared.answer.Answer.{Answer}
 use Rattle.model.specs.declared.event.Call.{Call}
-use Rattle.model.specs.declared.event.Call.the-variants.{Write, Read, Work, Hardware, Condition, Sample, Lasting}
+use Rattle.model.specs.declared.event.Call.the-variants.{Write, Read, Work, Hardware, Condition, Sample, Lasting, Module, Line}
 use Rattle.model.specs.declared.event.Event.{Event}
 
 -- an event: a call, and the bytes that a write carries
@@ -32,6 +33,8 @@ readCount (Hardware l) = 0
 readCount (Condition flag mask) = 0
 readCount (Sample l p) = 0
 readCount (Lasting flag on off) = 0
+readCount Module = 0
+readCount (Line on) = 0
 
 abbrev pub readAddress : Call → Address
 readAddress (Write address count) = 0
@@ -41,6 +44,8 @@ readAddress (Hardware l) = 0
 readAddress (Condition flag mask) = 0
 readAddress (Sample l p) = 0
 readAddress (Lasting flag on off) = 0
+readAddress Module = 0
+readAddress (Line on) = 0
 
 -- n bytes read from index i on: taken, then cleared, and then what is on shows again
 unfoldable pub readEffect : State → Index → Count → Effect
@@ -53,13 +58,15 @@ readEffect s i n =
 
 -- what an event does that is not refused
 unfoldable pub eventEffect : Mode → State → Bytes → Call → Effect
-eventEffect mode s bytes (Write address count) = onState (endedState address count (bytesWrittenState address (take count bytes) s))
+eventEffect mode s bytes (Write address count) = onState (endedState address (take count bytes) count (bytesWrittenState address (take count bytes) s))
 eventEffect mode s bytes (Read address count) = readEffect s (indexOf (s .image) address) count
 eventEffect mode s bytes (Work l) = workEffect mode s l
-eventEffect mode s bytes (Hardware l) = onState (withImage s (hardwareImage false (s .image) l))
+eventEffect mode s bytes (Hardware l) = onState (withImage s (hardwareImage (holdsDown (s .working .line) (s .image)) (s .image) l))
 eventEffect mode s bytes (Condition flag mask) = onState (withImage s (conditionImage flag mask (s .image)))
 eventEffect mode s bytes (Sample l p) = onState (sampledState l p s)
 eventEffect mode s bytes (Lasting flag on off) = onState (lastingState flag on off s)
+eventEffect mode s bytes Module = onState (withImage s (moduleImage (s .working .line) (s .image)))
+eventEffect mode s bytes (Line on) = onState (stateWith (s .image) (withLine (s .working) on))
 
 -- what a step gives
 pub record Stepped : Type 0 where

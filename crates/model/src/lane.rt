@@ -1,4 +1,4 @@
-// Lanes: the record that each keeps of its Apply, and the working state that holds the eight of them.
+// Lanes: the record that each keeps of its Apply, and the working state that holds the eight of them and the low-power line.
 ghost use mathlib.Core.Path.{_≡_};
 ghost use Rattle.model.specs.Records.{idleRecord, idleWorking};
 
@@ -59,16 +59,21 @@ impl LaneRecord {
     }
 }
 
-// What the module keeps beside its image.
+// What the module keeps beside its image: the lanes' records, and whether the low-power line is on.
 pub struct Working {
     pub lanes: [LaneRecord; 8],
+    pub line: bool,
 }
 
 impl Working {
+    // All lanes idle with nothing on, and the line off.
     pub fn idle() -> Self
         ensures { λ r. ⌜ r ≡ idleWorking ⌝ }
     {
         let record = LaneRecord::idle();
-        Working { lanes: [record; 8] }
+        Working {
+            lanes: [record; 8],
+            line: false,
+        }
     }
 }

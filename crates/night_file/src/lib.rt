@@ -10,6 +10,7 @@ ghost use Rattle.model.specs.File.{laterEditions, editionAmong, editionOf, isHe
 use map::IMAGE_LENGTH;
 use model::answer::Answer;
 use model::file::FileCheck;
+use night_records::FOURTH_EDITION;
 use night_records::RECORD_LENGTH;
 use night_records::THIRD_EDITION;
 
@@ -23,6 +24,8 @@ const SECOND_EDITION: u8 = 2;
 const SECOND_IMAGE_BYTES: usize = 896;
 
 const THIRD_IMAGE_BYTES: usize = 896;
+
+const FOURTH_IMAGE_BYTES: usize = 896;
 
 // The header: its two letters, and where its numbers and the image lie.
 const LETTER_W: u8 = 0x57;
@@ -55,6 +58,10 @@ fn edition_of(number: u8) -> Edition
         THIRD_EDITION => Edition {
             number: THIRD_EDITION,
             image_bytes: THIRD_IMAGE_BYTES,
+        },
+        FOURTH_EDITION => Edition {
+            number: FOURTH_EDITION,
+            image_bytes: FOURTH_IMAGE_BYTES,
         },
         _ => Edition {
             number: FIRST_EDITION,

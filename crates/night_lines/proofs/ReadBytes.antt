@@ -21,7 +21,7 @@ use Rattle.model.specs.Outcome.{laidOver, listRoom}
 use Rattle.model.specs.Text.{decimal, line}
 use Rattle.model.specs.declared.answer.Answer.{Answer}
 use Rattle.model.specs.declared.event.Call.{Call}
-use Rattle.model.specs.declared.event.Call.the-variants.{Write, Read, Work, Hardware, Condition, Sample, Lasting}
+use Rattle.model.specs.declared.event.Call.the-variants.{Write, Read, Work, Hardware, Condition, Sample, Lasting, Module, Line}
 use Rattle.model.specs.declared.event.Event.{Event}
 use Rattle.night_text.proofs.Lines.{line-most}
 use Rattle.laws.proofs.Reading.{step-reads}
@@ -44,6 +44,8 @@ read-most room s (Hardware l) d = omega arith
 read-most room s (Condition flag mask) d = omega arith
 read-most room s (Sample l p) d = omega arith
 read-most room s (Lasting flag on off) d = omega arith
+read-most room s Module d = omega arith
+read-most room s (Line on) d = omega arith
 
 module _ (room : ℕ) (s : State) (e : Event) where
   abbrev answerOf : Answer
@@ -88,6 +90,8 @@ event-digit room s (Hardware l) = digit-or _ _ _ (omega arith) (digit-or _ _ _ (
 event-digit room s (Condition flag mask) = digit-or _ _ _ (omega arith) none-digit
 event-digit room s (Sample l p) = digit-or _ _ _ (omega arith) none-digit
 event-digit room s (Lasting flag on off) = digit-or _ _ _ (omega arith) none-digit
+event-digit room s Module = none-digit
+event-digit room s (Line on) = none-digit
 
 step-digit : (room : ℕ) (s : State) (e : Event) → number (step early room s e .answer) < 10
 step-digit room s e = rw (step-answer room s e) (event-digit room s (e .call))

@@ -42,6 +42,8 @@ fn read_count(call: Call) -> usize
             on: _,
             off: _,
         } => 0,
+        Call::Module => 0,
+        Call::Line { on: _ } => 0,
     }
 }
 

@@ -1,19 +1,22 @@
 -- Laws of a record: its tests as code computes them, and the part of a row of bytes that it is. Assumes nothing.
-use mathlib.Core.Path.{_≡_, refl, _∙_}
+use mathlib.Core.Path.{_≡_, refl, sym, ap, _∙_}
 use mathlib.Core.Bool.{Bool, true, false, _&&_}
 use mathlib.Core.List.{List}
+use mathlib.Core.Logic.{_≢_}
 use Prim.Native.Nat.{ℕ, zero, suc, _+_, _-_, _*_, _^_, _≤_, _<_}
 use native.Mathlib.Nat.{add-zero}
+use native.Mathlib.Decide.{ℕ-discrete, decLt}
 use native.Mathlib.Omega.{arith}
 use lib.Dec.{eqb, leb, ltb}
 use lib.ListN.{getD, take, drop}
 use lib.Pow.{pow-pos, pow-add}
-use borrow.Author.Tests.{eqb-true, eqb-false, leb-true, ltb-true, ltb-false, le-leb, lt-ltb, eq-eqb}
-use Rattle.bits.specs.Choice.{both}
-use Rattle.bits.proofs.Tests.{and-both, split, bool-eq, implies-use, implies-i, both-i, both-l, both-r}
+use borrow.Author.Tests.{eqb-true, eqb-false, leb-true, ltb-true, ltb-false, le-leb, lt-ltb, le-ltb, eq-eqb, ne-eqb}
+use Rattle.bits.specs.Choice.{pick, both, either}
+use Rattle.bits.proofs.Tests.{and-both, split, bool-eq, implies-use, implies-i, both-i, both-l, both-r, pick-true, pick-false}
 use Rattle.bits.proofs.Loops.{all-at, all-intro}
-use Rattle.night_records.specs.Clear.{isClear, isClearFrom, lowFirst, tailOf}
-use Rattle.model.specs.File.{Edition, usedBytes, isRecord, recordLength}
+use Rattle.night_records.specs.Clear.{isClear, isClearFrom, lowFirst, tailOf, frontOf, conditionLimit, powerLimit, frontLimit}
+use Rattle.model.specs.File.{Edition, laterEditions, editionAmong, kindOf, writeKind, readKind, workKind, hardwareKind, conditionKind, sampleKind, moduleKind, lineKind, lineBytes, usedBytes, isRecord, recordLength}
+use Rattle.model.proofs.Editions.{six-forms}
 
 -- ---- tests
 -- tests joined by `&`
@@ -106,3 +109,146 @@ module _ (bytes : List ℕ) where
     tail-none = bool-eq _ _
         (λ e. let h : tailOf bytes ≡ 0 = eqb-true _ _ e in tail-clear 0 (omega arith))
         (λ e. let h : tailOf bytes < 1 = clear-tail 0 e in eq-eqb (tailOf bytes) 0 (omega arith))
+
+    -- ---- a record that is no write: by the three bytes behind its kind and the last eight
+
+    front-clear : (m : ℕ) → m ≤ 3 → both (eqb (tailOf bytes) 0) (ltb (frontOf bytes) (2 ^ (8 * m))) ≡ true → isClearFrom (1 + m) bytes ≡ true
+    front-clear m h e = clear-all (1 + m) bytes at-front
+      where
+        at-front : (j : ℕ) → 1 + m ≤ j → j < recordLength → getD bytes j 0 ≡ 0
+        at-front j u l = elim (decLt j 4) [
+          | yes b ↦ let z : j ≡ 1 + (j - 1) = omega arith in
+              rw z (low-below m 3 1 (ltb-true (frontOf bytes) (2 ^ (8 * m)) (both-r _ _ e)) (j - 1) (omega arith) (omega arith))
+          | no b ↦ clear-at 4 bytes (sym tail-none ∙ both-l _ _ e) j (omega arith) l
+        ]
+
+    clear-front : (m : ℕ) → m ≤ 3 → isClearFrom (1 + m) bytes ≡ true → both (eqb (tailOf bytes) 0) (ltb (frontOf bytes) (2 ^ (8 * m))) ≡ true
+    clear-front m h e =
+        let at : (j : ℕ) → 1 + m ≤ j → j < recordLength → getD bytes j 0 ≡ 0 = clear-at (1 + m) bytes e in
+        both-i (tail-none ∙ clear-all 4 bytes (λ j u l. at j (omega arith) l))
+        (lt-ltb (frontOf bytes) (2 ^ (8 * m)) (below-low small m 3 1 (λ j u l. at (1 + j) (omega arith) (omega arith))))
+
+    pub front-below : (m : ℕ) → m ≤ 3 → both (eqb (tailOf bytes) 0) (ltb (frontOf bytes) (2 ^ (8 * m))) ≡ isClearFrom (1 + m) bytes
+    front-below m h = bool-eq _ _ (front-clear m h) (clear-front m h)
+
+    -- .. where it uses 1 + m bytes in an edition
+    front-record : (e : Edition) (m : ℕ) → m ≤ 3 → usedBytes (e .forms) bytes ≡ 1 + m → both (eqb (tailOf bytes) 0) (ltb (frontOf bytes) (2 ^ (8 * m))) ≡ isRecord e bytes
+    front-record e m h u = record-by e (1 + m) bytes _ (front-below m h) u (omega arith)
+
+    -- .. where it uses none
+    no-record : (e : Edition) → usedBytes (e .forms) bytes ≡ 0 → both (eqb (tailOf bytes) 0) (ltb (frontOf bytes) 0) ≡ isRecord e bytes
+    unfolding isRecord
+    no-record e u = both-right _ _ (le-ltb (frontOf bytes) 0 (omega arith)) ∙ sym (both-left _ _ (rw u))
+
+    -- .. where it is a line: 0 or 1 behind its kind, and zeros
+    line-record : (e : Edition) → usedBytes (e .forms) bytes ≡ lineBytes bytes → both (eqb (tailOf bytes) 0) (ltb (frontOf bytes) 2) ≡ isRecord e bytes
+    unfolding lineBytes lowFirst
+    line-record e u = split (ltb (getD bytes 1 0) 2)
+        (λ t.
+        let b : getD bytes 1 0 < 2 = ltb-true (getD bytes 1 0) 2 t in
+        ap (both (eqb (tailOf bytes) 0)) (bool-eq _ _
+        (λ h. let g : frontOf bytes < 2 = ltb-true _ _ h in lt-ltb (frontOf bytes) (2 ^ (8 * 1)) (omega arith))
+        (λ h. let g : frontOf bytes < 256 = ltb-true _ _ h in lt-ltb (frontOf bytes) 2 (omega arith)))
+        ∙ front-record e 1 (omega arith) (u ∙ pick-true _ _ t))
+        (λ t.
+        let b : 2 ≤ getD bytes 1 0 = ltb-false (getD bytes 1 0) 2 t in
+        ap (both (eqb (tailOf bytes) 0)) (le-ltb (frontOf bytes) 2 (omega arith) ∙ sym (le-ltb (frontOf bytes) 0 (omega arith))) ∙ no-record e (u ∙ pick-false _ _ t))
+
+    -- ---- by kind and edition
+
+    module _ (edition : ℕ) where
+      abbrev e : Edition
+      e = editionAmong laterEditions edition
+
+      -- how many bytes a kind uses that not every edition has alike
+      condition-used : kindOf bytes ≡ conditionKind → usedBytes (e .forms) bytes ≡ pick (either (eqb edition 3) (eqb edition 4)) 4 3
+      unfolding editionAmong usedBytes pick either
+      condition-used k = split (eqb edition 2) (λ a. rw (eqb-true edition 2 a, k))
+          (λ a. split (eqb edition 3) (λ b. rw (eqb-true edition 3 b, k))
+          (λ b. split (eqb edition 4) (λ c. rw (eqb-true edition 4 c, k)) (λ c. rw (a, b, c, k))))
+
+      module-used : kindOf bytes ≡ moduleKind → usedBytes (e .forms) bytes ≡ pick (eqb edition 4) 1 0
+      unfolding editionAmong usedBytes pick
+      module-used k = split (eqb edition 2) (λ a. rw (eqb-true edition 2 a, k))
+          (λ a. split (eqb edition 3) (λ b. rw (eqb-true edition 3 b, k))
+          (λ b. split (eqb edition 4) (λ c. rw (eqb-true edition 4 c, k)) (λ c. rw (a, b, c, k))))
+
+      line-used : kindOf bytes ≡ lineKind → usedBytes (e .forms) bytes ≡ pick (eqb edition 4) (lineBytes bytes) 0
+      unfolding editionAmong usedBytes pick
+      line-used k = split (eqb edition 2) (λ a. rw (eqb-true edition 2 a, k))
+          (λ a. split (eqb edition 3) (λ b. rw (eqb-true edition 3 b, k))
+          (λ b. split (eqb edition 4) (λ c. rw (eqb-true edition 4 c, k)) (λ c. rw (a, b, c, k))))
+
+      -- each kind's limit says whether it is one
+      pub condition-is : kindOf bytes ≡ conditionKind → both (eqb (tailOf bytes) 0) (ltb (frontOf bytes) (conditionLimit edition)) ≡ isRecord e bytes
+      unfolding conditionLimit
+      condition-is k = split (either (eqb edition 3) (eqb edition 4))
+          (λ t. rw (pick-true {A = ℕ} 16777216 65536 t) (front-record e 3 (omega arith) (condition-used k ∙ pick-true _ _ t)))
+          (λ t. rw (pick-false {A = ℕ} 16777216 65536 t) (front-record e 2 (omega arith) (condition-used k ∙ pick-false _ _ t)))
+
+      pub module-is : kindOf bytes ≡ moduleKind → both (eqb (tailOf bytes) 0) (ltb (frontOf bytes) (powerLimit edition 1)) ≡ isRecord e bytes
+      unfolding powerLimit
+      module-is k = split (eqb edition 4)
+          (λ t. rw (pick-true {A = ℕ} 1 0 t) (front-record e 0 (omega arith) (module-used k ∙ pick-true _ _ t)))
+          (λ t. rw (pick-false {A = ℕ} 1 0 t) (no-record e (module-used k ∙ pick-false _ _ t)))
+
+      pub line-is : kindOf bytes ≡ lineKind → both (eqb (tailOf bytes) 0) (ltb (frontOf bytes) (powerLimit edition 2)) ≡ isRecord e bytes
+      unfolding powerLimit
+      line-is k = split (eqb edition 4)
+          (λ t. rw (pick-true {A = ℕ} 2 0 t) (line-record e (line-used k ∙ pick-true _ _ t)))
+          (λ t. rw (pick-false {A = ℕ} 2 0 t) (no-record e (line-used k ∙ pick-false _ _ t)))
+
+      -- a kind that no edition lists
+      module _ (n₁ : kindOf bytes ≢ writeKind) (n₂ : kindOf bytes ≢ readKind) (n₃ : kindOf bytes ≢ workKind) (n₄ : kindOf bytes ≢ hardwareKind)
+          (n₅ : kindOf bytes ≢ conditionKind) (n₆ : kindOf bytes ≢ sampleKind) (n₇ : kindOf bytes ≢ moduleKind) (n₈ : kindOf bytes ≢ lineKind) where
+        none-used : usedBytes (e .forms) bytes ≡ 0
+        unfolding editionAmong usedBytes pick
+        none-used = split (eqb edition 2) (λ a. rw (a, pick, ne-eqb _ _ n₁, ne-eqb _ _ n₂, ne-eqb _ _ n₃, ne-eqb _ _ n₄, ne-eqb _ _ n₅, ne-eqb _ _ n₆))
+            (λ a. split (eqb edition 3) (λ b. rw (a, b, pick, ne-eqb _ _ n₁, ne-eqb _ _ n₂, ne-eqb _ _ n₃, ne-eqb _ _ n₄, ne-eqb _ _ n₅, ne-eqb _ _ n₆))
+            (λ b. split (eqb edition 4) (λ c. rw (a, b, c, pick, ne-eqb _ _ n₁, ne-eqb _ _ n₂, ne-eqb _ _ n₃, ne-eqb _ _ n₄, ne-eqb _ _ n₅, ne-eqb _ _ n₆, ne-eqb _ _ n₇, ne-eqb _ _ n₈))
+            (λ c. rw (a, b, c, pick, ne-eqb _ _ n₁, ne-eqb _ _ n₂, ne-eqb _ _ n₃, ne-eqb _ _ n₄, ne-eqb _ _ n₅, ne-eqb _ _ n₆))))
+
+        pub none-is : both (eqb (tailOf bytes) 0) (ltb (frontOf bytes) 0) ≡ isRecord e bytes
+        none-is = no-record e none-used
+
+      pub read-is : kindOf bytes ≡ readKind → both (eqb (tailOf bytes) 0) (ltb (frontOf bytes) 65536) ≡ isRecord e bytes
+      unfolding usedBytes pick
+      read-is k = front-record e 2 (omega arith) (rw (six-forms edition .forms, k))
+
+      pub work-is : kindOf bytes ≡ workKind → both (eqb (tailOf bytes) 0) (ltb (frontOf bytes) 256) ≡ isRecord e bytes
+      unfolding usedBytes pick
+      work-is k = front-record e 1 (omega arith) (rw (six-forms edition .forms, k))
+
+      pub hardware-is : kindOf bytes ≡ hardwareKind → both (eqb (tailOf bytes) 0) (ltb (frontOf bytes) 256) ≡ isRecord e bytes
+      unfolding usedBytes pick
+      hardware-is k = front-record e 1 (omega arith) (rw (six-forms edition .forms, k))
+
+      pub sample-is : kindOf bytes ≡ sampleKind → both (eqb (tailOf bytes) 0) (ltb (frontOf bytes) 16777216) ≡ isRecord e bytes
+      unfolding usedBytes pick
+      sample-is k = front-record e 3 (omega arith) (rw (six-forms edition .forms, k))
+
+      -- every kind but a write
+      pub front-is : kindOf bytes ≢ writeKind → both (eqb (tailOf bytes) 0) (ltb (frontOf bytes) (frontLimit edition (kindOf bytes))) ≡ isRecord e bytes
+      unfolding frontLimit pick
+      front-is n₁ = elim (ℕ-discrete (kindOf bytes) readKind) [
+        | yes k ↦ rw k (read-is k)
+        | no n₂ ↦ elim (ℕ-discrete (kindOf bytes) workKind) [
+          | yes k ↦ rw k (work-is k)
+          | no n₃ ↦ elim (ℕ-discrete (kindOf bytes) hardwareKind) [
+            | yes k ↦ rw k (hardware-is k)
+            | no n₄ ↦ elim (ℕ-discrete (kindOf bytes) conditionKind) [
+              | yes k ↦ rw k (condition-is k)
+              | no n₅ ↦ elim (ℕ-discrete (kindOf bytes) sampleKind) [
+                | yes k ↦ rw k (sample-is k)
+                | no n₆ ↦ elim (ℕ-discrete (kindOf bytes) moduleKind) [
+                  | yes k ↦ rw k (module-is k)
+                  | no n₇ ↦ elim (ℕ-discrete (kindOf bytes) lineKind) [
+                    | yes k ↦ rw k (line-is k)
+                    | no n₈ ↦ rw (ne-eqb _ _ n₂, ne-eqb _ _ n₃, ne-eqb _ _ n₄, ne-eqb _ _ n₅, ne-eqb _ _ n₆, ne-eqb _ _ n₇, ne-eqb _ _ n₈) (none-is n₁ n₂ n₃ n₄ n₅ n₆ n₇ n₈)
+                  ]
+                ]
+              ]
+            ]
+          ]
+        ]
+      ]

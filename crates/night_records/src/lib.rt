@@ -4,8 +4,8 @@ ghost use Prim.Native.Nat.{_+_, _*_, _^_, _≤_, _<_};
 ghost use lib.ListN.{length};
 ghost use lib.Dec.{ltb};
 ghost use Rattle.bits.specs.Choice.{pick};
-ghost use Rattle.model.specs.File.{laterEditions, editionAmong, kindOf, conditionKind, writtenBytes, isRecord, recordLength};
-ghost use Rattle.night_records.specs.Clear.{tailOf, isClearFrom};
+ghost use Rattle.model.specs.File.{laterEditions, editionAmong, writtenBytes, isRecord, recordLength};
+ghost use Rattle.night_records.specs.Clear.{tailOf, isClearFrom, frontOf, conditionLimit, powerLimit, frontLimit};
 
 pub const RECORD_LENGTH: usize = 12;
 
@@ -22,10 +22,16 @@ pub const CONDITION: u8 = 5;
 
 const SAMPLE: u8 = 6;
 
+pub const MODULE: u8 = 7;
+
+pub const LINE: u8 = 8;
+
 const DATA_LIMIT: u8 = 8;
 
-// The edition whose conditions last.
+// The editions whose conditions last, and the one that has events of the module's power.
 pub const THIRD_EDITION: u8 = 3;
+
+pub const FOURTH_EDITION: u8 = 4;
 
 // How many bytes of a record are data, of the count that a write names.
 fn data_bytes(count: u8) -> usize
@@ -77,14 +83,6 @@ fn is_clear_from_3(bytes: &[u8], tail: u64) -> bool
     (bytes[3] == 0) & (tail == 0)
 }
 
-// .. from the third on.
-fn is_clear_from_2(bytes: &[u8], tail: u64) -> bool
-    requires { ⌜ (recordLength ≤ length (now bytes)) × (tail ≡ tailOf (now bytes)) ⌝ }
-    ensures { λ r. ⌜ r ≡ isClearFrom 2 (now (bytes .entry)) ⌝ }
-{
-    (bytes[2] == 0) & is_clear_from_3(bytes, tail)
-}
-
 // Whether a write's bytes behind its data are zeros.
 fn is_write(bytes: &[u8], tail: u64) -> bool
     requires { ⌜ (recordLength ≤ length (now bytes)) × (tail ≡ tailOf (now bytes)) ⌝ }
@@ -97,31 +95,60 @@ fn is_write(bytes: &[u8], tail: u64) -> bool
     tail < byte_limit(n - 1)
 }
 
-// Whether a condition's bytes behind those that it uses, in an edition, are zeros: from the third on it has an off mask.
-fn is_condition(bytes: &[u8], tail: u64, edition: u8) -> bool
-    requires { ⌜ (recordLength ≤ length (now bytes)) × (tail ≡ tailOf (now bytes)) × (kindOf (now bytes) ≡ conditionKind) ⌝ }
-    ensures { λ r. ⌜ r ≡ isRecord (editionAmong laterEditions edition) (now (bytes .entry)) ⌝ }
+// The three bytes behind a record's kind as one number, the first of them lowest.
+fn front_of(bytes: &[u8]) -> u64
+    requires { ⌜ recordLength ≤ length (now bytes) ⌝ }
+    ensures { λ r. ⌜ r ≡ frontOf (now (bytes .entry)) ⌝ }
 {
-    let fourth = bytes[3];
-    if edition == THIRD_EDITION {
-        return tail == 0;
-    }
-    (fourth == 0) & (tail == 0)
+    pair(bytes[1], bytes[2]) + 65536 * (bytes[3] as u64)
 }
 
-// Whether a record is of a kind that an edition lists, with zeros in the bytes that it does not use.
+// What that number of a condition stays below, in an edition: from the third on it has an off mask.
+fn condition_limit(edition: u8) -> u64
+    ensures { λ r. ⌜ r ≡ conditionLimit edition ⌝ }
+{
+    if (edition == THIRD_EDITION) | (edition == FOURTH_EDITION) {
+        return 16777216;
+    }
+    65536
+}
+
+// .. of an event of the module's power, which is listed from the fourth edition on.
+fn power_limit(edition: u8, limit: u64) -> u64
+    ensures { λ r. ⌜ r ≡ powerLimit edition limit ⌝ }
+{
+    if edition == FOURTH_EDITION {
+        return limit;
+    }
+    0
+}
+
+// .. of any kind but a write: nothing stays below the limit of a kind that is not listed.
+fn front_limit(kind: u8, edition: u8) -> u64
+    ensures { λ r. ⌜ r ≡ frontLimit edition kind ⌝ }
+{
+    match kind {
+        READ => 65536,
+        WORK => 256,
+        HARDWARE => 256,
+        CONDITION => condition_limit(edition),
+        SAMPLE => 16777216,
+        MODULE => power_limit(edition, 1),
+        LINE => power_limit(edition, 2),
+        _ => 0,
+    }
+}
+
+// Whether a record is of a kind that an edition lists, with zeros in the bytes that it does not use, and its line is to be on or off.
 pub fn is_record(bytes: &[u8], edition: u8) -> bool
     requires { ⌜ recordLength ≤ length (now bytes) ⌝ }
     ensures { λ r. ⌜ r ≡ isRecord (editionAmong laterEditions edition) (now (bytes .entry)) ⌝ }
 {
     let tail = tail_of(bytes);
-    match bytes[0] {
-        WRITE => is_write(bytes, tail),
-        READ => is_clear_from_3(bytes, tail),
-        WORK => is_clear_from_2(bytes, tail),
-        HARDWARE => is_clear_from_2(bytes, tail),
-        CONDITION => is_condition(bytes, tail, edition),
-        SAMPLE => tail == 0,
-        _ => false,
+    let kind = bytes[0];
+    if kind == WRITE {
+        return is_write(bytes, tail);
     }
+    let limit = front_limit(kind, edition);
+    (tail == 0) & (front_of(bytes) < limit)
 }

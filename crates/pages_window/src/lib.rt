@@ -1,16 +1,18 @@
 // A window on a half of memory: it holds the lent image and where the half starts, and serves reads. Its read is thin: `take_in` does the work.
 ghost use mathlib.Core.Path.{_≡_};
-ghost use Prim.Native.Nat.{_+_, _≤_, _<_};
+ghost use mathlib.Core.Bool.{false};
+ghost use Prim.Native.Nat.{_+_, _^_, _≤_, _<_};
 ghost use lib.ListN.{length};
 ghost use Rattle.model.specs.Access.{shownByte, takenBytes};
 ghost use Rattle.model.specs.Outcome.{laidOver};
+ghost use Rattle.pages_window.specs.Hidden.{meetsHidden};
 
 pub struct Window<'a> {
     pub image: &'a [u8],
     pub start: usize,
 }
 
-// What a read shows of a byte: the triggers read as 0.
+// What a read shows of a byte: the triggers and SoftwareReset read as 0.
 fn shown(image: &[u8], i: usize) -> u8
     requires { ⌜ i < length (now image) ⌝ }
     ensures { λ r. ⌜ r ≡ shownByte (now (image .entry)) i ⌝ }
@@ -19,7 +21,35 @@ fn shown(image: &[u8], i: usize) -> u8
     if (i == map::APPLY_DP_INIT) | (i == map::APPLY_IMMEDIATE) {
         return 0;
     }
-    v
+    map::without_reset(i, v)
+}
+
+// Whether one of n bytes from i on may show otherwise than it is stored: lower 26, and the triggers.
+fn meets_hidden(i: usize, n: usize) -> bool
+    requires { ⌜ i + n < 2 ^ 64 ⌝ }
+    ensures { λ r. ⌜ r ≡ meetsHidden i n ⌝ }
+{
+    (i <= map::MODULE_CONTROLS) | ((i <= map::APPLY_IMMEDIATE) & (map::APPLY_DP_INIT < i + n))
+}
+
+// Bytes from an index on, each as a read shows it, into the front of the buffer.
+fn take_shown(image: &[u8], first: usize, count: usize, buffer: &mut [u8])
+    requires { ⌜ (first + count ≤ length (now image)) × (count ≤ length (now buffer)) ⌝ }
+    ensures { λ _. ⌜ now (buffer .exit) ≡ laidOver (takenBytes (now (image .entry)) first count) (now (buffer .entry)) ⌝ }
+{
+    for k in 0..count {
+        buffer[k] = shown(image, first + k);
+    }
+}
+
+// Bytes from an index on that show as they are stored, into the front of the buffer.
+fn take_stored(image: &[u8], first: usize, count: usize, buffer: &mut [u8])
+    requires { ⌜ (first + count ≤ length (now image)) × (count ≤ length (now buffer)) × (meetsHidden first count ≡ false) ⌝ }
+    ensures { λ _. ⌜ now (buffer .exit) ≡ laidOver (takenBytes (now (image .entry)) first count) (now (buffer .entry)) ⌝ }
+{
+    for k in 0..count {
+        buffer[k] = image[first + k];
+    }
 }
 
 // The bytes at an offset from a start, as a read shows them, into the front of the buffer.
@@ -28,8 +58,10 @@ fn take_in(image: &[u8], start: usize, offset: usize, count: usize, buffer: &mut
     ensures { λ _. ⌜ now (buffer .exit) ≡ laidOver (takenBytes (now (image .entry)) (start + offset) count) (now (buffer .entry)) ⌝ }
 {
     let first = start + offset;
-    for k in 0..count {
-        buffer[k] = shown(image, first + k);
+    if meets_hidden(first, count) {
+        take_shown(image, first, count, buffer);
+    } else {
+        take_stored(image, first, count, buffer);
     }
 }
 

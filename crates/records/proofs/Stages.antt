@@ -21,7 +21,7 @@ same-stage : (r : LaneRecord) → withStage r (r .stage) ≡ r
 unfolding withStage
 same-stage r = refl
 
-pub stages-loop : (c : ℕ → Bool) (f : ℕ → Stage → Stage) (w v : Working) → length (w .lanes) ≡ laneCount
+pub stages-loop : (c : ℕ → Bool) (f : ℕ → Stage → Stage) (w v : Working) → length (w .lanes) ≡ laneCount → v .line ≡ w .line
     → v .lanes ≡ each c (restaged f) laneCount (w .lanes) → v ≡ withStages w (λ l. pick (c l) (f l (stageAt w l)) (stageAt w l))
 unfolding withStages
-stages-loop c f w v e h = let m = h ∙ fields-loop (λ r. r .stage) withStage same-stage c f (w .lanes) e in λ i. record { lanes = m i }
+stages-loop c f w v e l h = let m = h ∙ fields-loop (λ r. r .stage) withStage same-stage c f (w .lanes) e in λ i. record { lanes = m i; line = l i }

@@ -3,7 +3,7 @@ ghost use mathlib.Core.Path.{_≡_};
 ghost use Prim.Native.Nat.{_<_};
 ghost use Rattle.bits.specs.Sets.{has, maskOf, laneCount};
 ghost use Rattle.model.specs.Map.{lastingCount};
-ghost use Rattle.model.specs.Records.{stageAt, onAt, isInProgress, isPass, isPassing, heldIn, withStage, withVerdict, freedWorking, advancedWorking};
+ghost use Rattle.model.specs.Records.{stageAt, onAt, isInProgress, isPass, isPassing, heldIn, withLine, withStage, withVerdict, freedWorking, advancedWorking};
 ghost use Rattle.model.specs.Work.{isRelease};
 use model::lane::LaneRecord;
 use model::lane::Progress;
@@ -183,4 +183,12 @@ pub fn advanced(w: Working, group: u8, n: u8) -> Working
         }
     }
     next
+}
+
+// The low-power line set, and the lanes' records as they were.
+pub fn with_line(w: Working, on: bool) -> Working
+    ensures { λ r. ⌜ r ≡ withLine w on ⌝ }
+{
+    let lanes = w.lanes;
+    Working { lanes, line: on }
 }

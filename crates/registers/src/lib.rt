@@ -4,7 +4,7 @@ ghost use Rattle.contracts.specs.Contracts.{IsOutcome};
 ghost use Rattle.model.specs.State.{stateWith};
 ghost use Rattle.model.specs.Outcome.{startOutcome, callOutcome};
 ghost use Rattle.model.specs.Step.{event};
-ghost use Rattle.model.specs.declared.event.Call.the-variants.{Write, Read, Work, Hardware, Condition, Sample, Lasting};
+ghost use Rattle.model.specs.declared.event.Call.the-variants.{Write, Read, Work, Hardware, Condition, Sample, Lasting, Module, Line};
 ghost use Rattle.contracts.specs.Asked.{asked};
 use contracts::Returned;
 use model::event::Event;
@@ -71,4 +71,18 @@ pub fn sample(image: &mut [u8], w: Working, lane: u8, power: u16) -> Returned
     ensures { λ r. ⌜ IsOutcome (callOutcome (stateWith (now (image .entry)) w) [] (asked (Sample lane power))) r (now (image .exit)) [] ⌝ }
 {
     calls::without_buffer(image, w, asked_events::sample(lane, power))
+}
+
+// The module event: the module moves one state on.
+pub fn move_module(image: &mut [u8], w: Working) -> Returned
+    ensures { λ r. ⌜ IsOutcome (callOutcome (stateWith (now (image .entry)) w) [] (asked Module)) r (now (image .exit)) [] ⌝ }
+{
+    calls::without_buffer(image, w, asked_events::move_module())
+}
+
+// The low-power line is set, on or off.
+pub fn set_line(image: &mut [u8], w: Working, on: bool) -> Returned
+    ensures { λ r. ⌜ IsOutcome (callOutcome (stateWith (now (image .entry)) w) [] (asked (Line on))) r (now (image .exit)) [] ⌝ }
+{
+    calls::without_buffer(image, w, asked_events::set_line(on))
 }

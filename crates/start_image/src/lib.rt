@@ -48,8 +48,10 @@ pub fn refusal(image: &[u8]) -> Answer
     Answer::Done
 }
 
-// Lower 3: ModuleReady, no interrupt. 11h:128-131: DPDeactivated, two lanes a byte.
-const READY: u8 = 0x07;
+// Lower 3: ModuleLowPwr, no interrupt. Lower 26: the low-power line may ask for low power. 11h:128-131: DPDeactivated, two lanes a byte.
+const LOW_POWERED: u8 = 0x03;
+
+const LINE_ALLOWED: u8 = 0x40;
 
 const ALL_DEACTIVATED: u8 = 0x11;
 
@@ -58,7 +60,10 @@ fn start_value(i: usize) -> u8
     ensures { λ r. ⌜ r ≡ startValue i ⌝ }
 {
     if i == map::MODULE_STATE {
-        return READY;
+        return LOW_POWERED;
+    }
+    if i == map::MODULE_CONTROLS {
+        return LINE_ALLOWED;
     }
     if map::on_page(i, map::PAGE_11, 128, 131) {
         return ALL_DEACTIVATED;

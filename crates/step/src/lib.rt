@@ -27,5 +27,7 @@ pub fn step(image: &mut [u8], w: Working, event: Event, buffer: &mut [u8]) -> Re
         Call::Condition { flag, mask } => step_module::condition(image, w, flag, mask),
         Call::Sample { lane, power } => step_module::sample(image, w, lane, power),
         Call::Lasting { flag, on, off } => step_module::lasting(image, w, flag, on, off),
+        Call::Module => step_module::move_module(image, w),
+        Call::Line { on } => step_module::set_line(image, w, on),
     }
 }

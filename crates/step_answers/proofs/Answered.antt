@@ -16,7 +16,7 @@ use Rattle.model.specs.Flags.{isConditionFlag}
 use Rattle.model.specs.Access.{isBadAccess, writeLimit, readLimit}
 use Rattle.model.specs.Refusals.{firstOf, noSuchLane, isBusy, isUnused, eventRefusals}
 use Rattle.model.specs.declared.answer.Answer.the-variants.{Done, BadAccess, ShortBuffer, NothingOnLane, Busy, NoSuchTarget}
-use Rattle.model.specs.declared.event.Call.the-variants.{Write, Read, Work, Hardware, Condition, Sample, Lasting}
+use Rattle.model.specs.declared.event.Call.the-variants.{Write, Read, Work, Hardware, Condition, Sample, Lasting, Module, Line}
 use Rattle.model.specs.declared.lane.Stage.{Stage}
 use Rattle.model.specs.declared.lane.Working.{Working}
 use Rattle.model.proofs.Refused.{first-here, first-next, first-none}
@@ -100,6 +100,15 @@ module _ (room : ℕ) (s : State) where
   pub lasting-done : (flag on off : ℕ) → isConditionFlag flag ≡ true → firstOf (eventRefusals room s (Lasting flag on off)) ≡ Done
   unfolding eventRefusals
   lasting-done flag on off e = first-next _ _ _ (ap not e) ∙ first-none
+
+  -- a module event and a line event: none
+  pub module-done : firstOf (eventRefusals room s Module) ≡ Done
+  unfolding eventRefusals
+  module-done = first-none
+
+  pub line-done : (on : Bool) → firstOf (eventRefusals room s (Line on)) ≡ Done
+  unfolding eventRefusals
+  line-done on = first-none
 
   -- a write: 4
   pub write-bad : (address count : ℕ) → isBadAccess writeLimit address count ≡ true → firstOf (eventRefusals room s (Write address count)) ≡ BadAccess

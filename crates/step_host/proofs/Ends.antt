@@ -1,42 +1,57 @@
--- The end of an access: after the bytes of a write, and after a read, which writes none and shows again what is on. Assumes nothing.
-use mathlib.Core.Path.{_≡_, ap, ap₂, _∙_}
+-- The end of an access: after the bytes of a write, plain or not, and after a read, which shows again what is on. Assumes nothing.
+use mathlib.Core.Path.{_≡_, refl, ap, ap₂, subst, _∙_}
 use mathlib.Core.Bool.{true}
-use Prim.Native.Nat.{ℕ, _+_}
+use mathlib.Core.List.{List}
+use Prim.Native.Nat.{ℕ, _+_, _≤_, _<_}
 use native.Mathlib.Omega.{arith}
-use borrow.Author.Tests.{leb-true, ltb-true}
-use Rattle.bits.specs.Choice.{onlyIf}
-use Rattle.bits.proofs.Tests.{split, both-l, both-r}
-use Rattle.model.specs.Map.{Image, runAddress}
+use lib.Dec.{ltb}
+use lib.ListN.{length}
+use borrow.Author.Tests.{ltb-false}
+use Rattle.bits.specs.Choice.{pick, onlyIf}
+use Rattle.bits.proofs.Tests.{split}
+use Rattle.model.specs.Map.{Image, moduleControls}
 use Rattle.model.specs.State.{State, stateWith}
 use Rattle.model.specs.declared.lane.Working.{Working}
 use Rattle.model.specs.Flags.{shownAgainImage, settledImage}
 use Rattle.model.specs.Pages.{indexOf}
 use Rattle.model.specs.Commands.{commandImage}
-use Rattle.model.specs.Access.{writes, runsCommand, endedState, clearedImage}
+use Rattle.model.specs.Access.{bytesWrittenState, runsCommand, endedState, clearedImage, halfEnd}
 use Rattle.model.specs.Step.{readEffect}
+use Rattle.contracts.specs.Contracts.{IsState}
+use Rattle.access_writes.specs.Puts.{isPlain, bytesPut}
+use Rattle.access_writes.proofs.Writing.{left-state}
+use Rattle.access_writes.proofs.Putting.{plain-past, plain-put}
+use Rattle.access_ends.proofs.Resetting.{reset-past}
+use Rattle.step_host.specs.Settled.{settledState, plainImage}
 use Rattle.step_host.proofs.Elsewhere.{index-kept}
 
--- what a write leaves, at what its bytes have left
-pub write-ended : (address n : ℕ) (s : State) (x : Image) → x ≡ s .image → onlyIf (runsCommand address n x) commandImage x ≡ endedState address n s .image
-unfolding endedState
-write-ended address n s x e = ap (λ y. onlyIf (runsCommand address n y) commandImage y) e
+module _ (address : ℕ) (bytes : List ℕ) where
+  -- a plain write, from what its parts leave
+  pub plain-by : (x : Image) {y e z : Image} → y ≡ bytesPut (indexOf x address) bytes x → e ≡ onlyIf (runsCommand address (length bytes) y) commandImage y
+      → z ≡ settledImage e → z ≡ plainImage address bytes x
+  unfolding plainImage
+  plain-by x p q r = r ∙ ap settledImage (q ∙ ap (λ y. onlyIf (runsCommand address (length bytes) y) commandImage y) p)
 
-pub records-kept : (address n : ℕ) (s : State) {w : Working} → w ≡ s .working → w ≡ endedState address n s .working
-unfolding endedState
-records-kept address n s e = e
+  -- .. it begins after lower 26
+  begins-past : (x : Image) → moduleControls < indexOf x address → moduleControls < address
+  unfolding indexOf pick
+  begins-past x l = split (ltb address 128) (λ t. rw (t, pick) at l) (λ f. omega (arith, ltb-false address 128 f))
 
--- a read runs no command
-nothing-runs : (address : ℕ) (x : Image) → runsCommand address 0 x ≡ true → ⊥
-unfolding runsCommand writes
-nothing-runs address x r =
-    let t = both-l _ _ r in
-    omega (arith, leb-true address runAddress (both-l _ _ t), ltb-true runAddress (address + 0) (both-r _ _ t))
+  -- .. and so it resets nothing
+  pub plain-ended : (x z : Image) (w : Working) → address + length bytes ≤ halfEnd address → isPlain (indexOf x address) (length bytes) ≡ true
+      → z ≡ plainImage address bytes x
+      → IsState (settledState (endedState address bytes (length bytes) (bytesWrittenState address bytes (stateWith x w)))) z w
+  unfolding endedState plainImage pick
+  plain-ended x z w h p e =
+      rw (plain-put address bytes x w h p, reset-past address bytes (length bytes) (begins-past x (plain-past _ _ p)))
+      (record { image = e; working = refl })
 
-pub read-ended : (address : ℕ) (x z : Image) → z ≡ settledImage (onlyIf (runsCommand address 0 x) commandImage x) → z ≡ settledImage x
-unfolding onlyIf
-read-ended address x z e = split (runsCommand address 0 x)
-    (λ r. absurd (nothing-runs address x r))
-    (λ r. rw (r, onlyIf) at e)
+  -- any write, from what its bytes and its end leave
+  pub write-ended : (n : ℕ) {s : State} {x y z : Image} {w v : Working} → IsState s x w → IsState (endedState address bytes n (stateWith x w)) y v
+      → z ≡ settledImage y → IsState (settledState (endedState address bytes n s)) z v
+  write-ended n {y = y} {v = v} p q r =
+      let e = subst (λ t. IsState (endedState address bytes n t) y v) (left-state p) q in
+      record { image = r ∙ ap settledImage (e .image); working = e .working }
 
 -- what a read leaves before its end
 pub read-shown : (w : Working) (x y z : Image) (a n : ℕ) → y ≡ clearedImage x (indexOf x a) n → z ≡ shownAgainImage w (indexOf y a) n y

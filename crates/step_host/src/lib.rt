@@ -1,14 +1,12 @@
-// The host's accesses, on a module whose image has its length: the refusals 4 and 5, then the access, the command that it runs or what is on and shows again, then lower 3.0.
+// The host's accesses, on a module whose image has its length: the refusals 4 and 5, then the access, the end of a write or what is on and shows again, then lower 3.0.
 ghost use mathlib.Core.Path.{_≡_};
 ghost use mathlib.Core.List.{[]};
 ghost use Prim.Native.Nat.{_+_, _≤_};
 ghost use lib.ListN.{length};
-ghost use Rattle.bits.specs.Choice.{onlyIf};
 ghost use Rattle.contracts.specs.Contracts.{IsState, IsOutcome};
-ghost use Rattle.step_host.specs.Settled.{settledState};
-ghost use Rattle.model.specs.Access.{bytesWrittenState, runsCommand, endedState, halfEnd};
-ghost use Rattle.model.specs.Commands.{commandImage};
-ghost use Rattle.model.specs.Flags.{shownAgainImage, settledImage};
+ghost use Rattle.step_host.specs.Settled.{settledState, plainImage};
+ghost use Rattle.model.specs.Access.{bytesWrittenState, endedState, halfEnd};
+ghost use Rattle.model.specs.Flags.{shownAgainImage};
 ghost use Rattle.model.specs.Pages.{indexOf};
 ghost use Rattle.model.specs.State.{stateWith};
 ghost use Rattle.model.specs.Outcome.{stepOutcome};
@@ -24,23 +22,29 @@ use model::lane::Working;
 // The last flag that can last.
 const LAST_LASTING: u8 = map::LATER_LASTING + map::LASTING_COUNT - 1;
 
-// The end of an access that has written so many bytes from an address on, none where it was a read: the command that it runs, then lower 3.0.
-fn end_access(image: &mut [u8], address: u8, written: usize)
-    requires { ⌜ length (now image) ≡ imageLength ⌝ }
-    ensures { λ _. ⌜ now (image .exit) ≡ settledImage (onlyIf (runsCommand address written (now (image .entry))) commandImage (now (image .entry))) ⌝ }
+// A plain write: its bytes, the command that it runs, then lower 3.0.
+fn write_plain(image: &mut [u8], address: u8, bytes: &[u8])
+    requires { ⌜ (length (now image) ≡ imageLength) × (address + length (now bytes) ≤ halfEnd address) ⌝ }
+    ensures { λ _. ⌜ now (image .exit) ≡ plainImage address (now (bytes .entry)) (now (image .entry)) ⌝ }
 {
-    commands::end_write(image, address, written);
+    access_writes::write_plain(image, address, bytes);
+    commands::end_write(image, address, bytes.len());
     flags_interrupt::settle(image)
 }
 
-// A write that is not refused: its bytes, then its end.
+// A write that is not refused: its bytes, then its end, then lower 3.0.
 fn write_bytes(image: &mut [u8], w: Working, address: u8, bytes: &[u8]) -> Working
     requires { ⌜ (length (now image) ≡ imageLength) × (address + length (now bytes) ≤ halfEnd address) ⌝ }
-    ensures { λ r. ⌜ IsState (settledState (endedState address (length (now (bytes .entry))) (bytesWrittenState address (now (bytes .entry)) (stateWith (now (image .entry)) w)))) (now (image .exit)) r ⌝ }
+    ensures { λ r. ⌜ IsState (settledState (endedState address (now (bytes .entry)) (length (now (bytes .entry))) (bytesWrittenState address (now (bytes .entry)) (stateWith (now (image .entry)) w)))) (now (image .exit)) r ⌝ }
 {
-    let written = access_writes::write(image, w, address, bytes);
-    end_access(image, address, bytes.len());
-    written
+    if access_writes::is_plain(image, address, bytes.len()) {
+        write_plain(image, address, bytes);
+        return w;
+    }
+    let written = access_writes::write_each(image, w, address, bytes);
+    let ended = access_ends::end_write(image, written, address, bytes);
+    flags_interrupt::settle(image);
+    ended
 }
 
 // A host write of count of the bytes that are given.
@@ -81,6 +85,6 @@ pub fn read(image: &mut [u8], w: Working, address: u8, count: u8, buffer: &mut [
     }
     access_reads::read(image, address, count, buffer);
     show_flags(image, w, address, n);
-    end_access(image, address, 0);
+    flags_interrupt::settle(image);
     contracts::reply(Answer::Done, w)
 }

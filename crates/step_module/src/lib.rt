@@ -9,7 +9,7 @@ ghost use Rattle.model.specs.Outcome.{stepOutcome};
 ghost use Rattle.model.specs.Refusals.{isBusy};
 ghost use Rattle.model.specs.Step.{step};
 ghost use Rattle.model.specs.Work.{early};
-ghost use Rattle.model.specs.declared.event.Call.the-variants.{Work, Hardware, Condition, Sample, Lasting};
+ghost use Rattle.model.specs.declared.event.Call.the-variants.{Work, Hardware, Condition, Sample, Lasting, Module, Line};
 ghost use Rattle.contracts.specs.Asked.{asked};
 ghost use Rattle.model.specs.Map.{imageLength};
 ghost use Rattle.bits.specs.Sets.{laneCount};
@@ -63,7 +63,8 @@ pub fn hardware(image: &mut [u8], w: Working, lane: u8) -> Returned
     if !view_paths::used_at(image, map::ACTIVE_SET, lane) {
         return contracts::reply(Answer::NothingOnLane, w);
     }
-    hardware_moves::move_path(image, false, lane);
+    let down = power_signals::holds_down(image, w.line);
+    hardware_moves::move_path(image, down, lane);
     flags_interrupt::settle(image);
     contracts::reply(Answer::Done, w)
 }
@@ -103,6 +104,26 @@ pub fn sample(image: &mut [u8], w: Working, lane: u8, power: u16) -> Returned
         return contracts::reply(Answer::NoSuchTarget, w);
     }
     let working = flags_lasting::sample(image, w, lane, power);
+    flags_interrupt::settle(image);
+    contracts::reply(Answer::Done, working)
+}
+
+// The module event: the module moves one state on.
+pub fn move_module(image: &mut [u8], w: Working) -> Returned
+    requires { ⌜ length (now image) ≡ imageLength ⌝ }
+    ensures { λ r. ⌜ IsOutcome (stepOutcome (step early 0 (stateWith (now (image .entry)) w) (asked Module)) []) r (now (image .exit)) [] ⌝ }
+{
+    power_moves::move_module(image, w.line);
+    flags_interrupt::settle(image);
+    contracts::reply(Answer::Done, w)
+}
+
+// The low-power line is set.
+pub fn set_line(image: &mut [u8], w: Working, on: bool) -> Returned
+    requires { ⌜ length (now image) ≡ imageLength ⌝ }
+    ensures { λ r. ⌜ IsOutcome (stepOutcome (step early 0 (stateWith (now (image .entry)) w) (asked (Line on))) []) r (now (image .exit)) [] ⌝ }
+{
+    let working = records::with_line(w, on);
     flags_interrupt::settle(image);
     contracts::reply(Answer::Done, working)
 }

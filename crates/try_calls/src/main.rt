@@ -126,6 +126,11 @@ fn set(image: &mut [u8; 896], at: usize, v: u8) {
     }
 }
 
+// ModuleReady, where a path is not held down.
+fn ready_module(image: &mut [u8; 896]) {
+    set(image, 3, 0x07);
+}
+
 // Answer 10: one limit after the other set to 1, of low alarm, low warning, high warning and high alarm. A refused start leaves lower 3.
 fn start_with_1(image: &mut [u8; 896], limit: usize) -> Returned {
     set(image, limit, 1);
@@ -246,6 +251,7 @@ fn commission() {
     let mut image = [0u8; 896];
     offer_four_lanes(&mut image);
     let w = marked(&mut image);
+    ready_module(&mut image);
     let closed = work_out(&mut image, w);
     say(b"commissioned by ApplyDPInit", closed.mask);
     let applied = closed.working;
@@ -302,6 +308,7 @@ fn turn_on_with_pending() {
     let mut image = [0u8; 896];
     offer_four_lanes(&mut image);
     let w = start(&mut image);
+    ready_module(&mut image);
     use_lanes_0_to_3(&mut image);
     turn_on_lanes_0_to_3(&mut image);
     say_answer(

@@ -30,14 +30,17 @@ fn settle(image: &mut [u8; 896], w: Working) -> Returned {
     registers::read(image, w, 0, 1, &mut buffer)
 }
 
-// Flags of a lent image: of lower 8 and 9 only 8.6 pulls the interrupt.
+// Flags of a lent image: of lower 8 and 9 only 8.6 and 8.0 pull the interrupt.
 fn lent_flags() {
     let mut image = [0u8; 896];
     let w = start(&mut image);
-    image[8] = 0xbf;
+    image[8] = 0xbe;
     image[9] = 0xff;
     settle(&mut image, w);
-    say(b"lower 3 with every flag of 8 and 9 but 8.6", image[3]);
+    say(
+        b"lower 3 with every flag of 8 and 9 but 8.6 and 8.0",
+        image[3],
+    );
     image[8] = 0x40;
     settle(&mut image, w);
     say(b"lower 3 with 8.6", image[3]);

@@ -20,6 +20,8 @@ impl Maker {
             self.command_registers()
         } else if self.wild && self.rng.percent(12) {
             self.flag_registers()
+        } else if self.wild && self.rng.percent(6) {
+            self.module_registers()
         } else {
             self.usual_registers()
         };
@@ -119,19 +121,23 @@ impl Maker {
                 _ => self.rng.byte(),
             };
         }
-        if self.rng.percent(10) {
-            // All masks on or off.
-            let all = [bytes[0]; 8];
-            let errand = vec![
-                self.page(0x10),
-                write_event(213, &all),
-                write_event(221, &all),
-                write_event(229, &all[..4]),
-            ];
-            return self.begin(errand);
-        }
-        let errand = vec![self.page(0x10), write_event(address, &bytes[..count])];
+        let errand = if self.rng.percent(10) {
+            self.all_masks(bytes[0])
+        } else {
+            vec![self.page(0x10), write_event(address, &bytes[..count])]
+        };
         self.begin(errand)
+    }
+
+    /// All masks of lanes alike.
+    pub(super) fn all_masks(&mut self, byte: u8) -> Vec<Event> {
+        let all = [byte; 8];
+        vec![
+            self.page(0x10),
+            write_event(213, &all),
+            write_event(221, &all),
+            write_event(229, &all[..4]),
+        ]
     }
 
     /// A record with anything in it, often at the edge of what is allowed.

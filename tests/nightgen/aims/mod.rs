@@ -4,12 +4,15 @@ mod accesses;
 mod applies;
 mod commands;
 mod paths;
+mod power;
 mod signals;
 
 pub use self::commands::Slip;
+use crate::power::{all_deactivated, holds_down};
 use crate::rng::Rng;
 use crate::state::State;
 use second::module::Event;
+use second::night::Edition;
 use second::registers::IMAGE_LEN;
 use std::collections::VecDeque;
 
@@ -21,6 +24,24 @@ pub enum Conditions {
     Both,
 }
 
+/// The events that there are beside those of every edition.
+#[derive(Clone, Copy)]
+pub struct Kinds {
+    conditions: Conditions,
+    /// The module event and the low-power line.
+    power: bool,
+}
+
+impl Kinds {
+    /// What no file has together.
+    pub const ALL: Kinds = Kinds { conditions: Conditions::Both, power: true };
+
+    pub fn of(edition: Edition) -> Kinds {
+        let conditions = if edition.lasting { Conditions::Lasting } else { Conditions::OneTime };
+        Kinds { conditions, power: edition.power }
+    }
+}
+
 /// Makes a night's events, looking at the state they lead to.
 pub struct Maker {
     rng: Rng,
@@ -29,7 +50,9 @@ pub struct Maker {
     errand: VecDeque<Event>,
     /// Whether odd and wrong records are mixed in.
     wild: bool,
-    conditions: Conditions,
+    kinds: Kinds,
+    /// Whether the module, once it is up, is sent down and reset now and then.
+    restless: bool,
     /// What is wrong with the last message that was decided on, if it is one
     /// byte alone.
     pub slip: Option<Slip>,
@@ -37,18 +60,14 @@ pub struct Maker {
 
 impl Maker {
     /// A maker of the events of a night that begins with this image.
-    pub fn new(
-        mut rng: Rng,
-        image: &[u8; IMAGE_LEN],
-        wild: bool,
-        conditions: Conditions,
-    ) -> Maker {
-        Maker::from(Rng(rng.next()), State::start(image), wild, conditions)
+    pub fn new(mut rng: Rng, image: &[u8; IMAGE_LEN], wild: bool, kinds: Kinds) -> Maker {
+        Maker::from(Rng(rng.next()), State::start(image), wild, kinds)
     }
 
     /// A maker that goes on from any state.
-    pub fn from(rng: Rng, state: State, wild: bool, conditions: Conditions) -> Maker {
-        Maker { rng, state, errand: VecDeque::new(), wild, conditions, slip: None }
+    pub fn from(mut rng: Rng, state: State, wild: bool, kinds: Kinds) -> Maker {
+        let restless = wild && rng.percent(50);
+        Maker { rng, state, errand: VecDeque::new(), wild, kinds, restless, slip: None }
     }
 
     pub fn next(&mut self) -> Event {
@@ -56,13 +75,20 @@ impl Maker {
             return self.errand.pop_front().unwrap();
         }
         // A host that is always at it, with wrong records mixed in; or, for
-        // measuring, all six kinds of event about equally often.
+        // measuring, the six kinds of event of every edition about equally often.
         let free = self.errand.is_empty();
         let weights = if self.wild {
             let (provision, command) = if free { (14, 11) } else { (2, 0) };
-            [26, 24, provision, 4, 4, 22, 8, 8, 3, 3, 3, 2, 3, 4, command]
+            // The module is left alone for a while before its paths are up.
+            let power = match (free, self.kinds.power) {
+                (true, true) if holds_down(&self.state) => 24,
+                (true, true) if self.restless && !all_deactivated(&self.state) => 9,
+                (true, _) if self.restless => 3,
+                _ => 0,
+            };
+            [26, 24, provision, 4, 4, 22, 8, 8, 3, 3, 3, 2, 3, 4, command, power]
         } else {
-            [19, 19, if free { 6 } else { 0 }, 1, 1, 18, 19, 19, 1, 1, 1, 1, 0, 0, 0]
+            [19, 19, if free { 6 } else { 0 }, 1, 1, 18, 19, 19, 1, 1, 1, 1, 0, 0, 0, 0]
         };
         let mut left = self.rng.below(weights.iter().sum());
         let mut choice = 0;
@@ -85,7 +111,8 @@ impl Maker {
             11 => self.trigger_again(),
             12 => self.anything(),
             13 => self.mute(),
-            _ => self.command(),
+            14 => self.command(),
+            _ => self.power(),
         }
     }
 

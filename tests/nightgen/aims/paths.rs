@@ -42,12 +42,17 @@ impl Maker {
             2 | 3 => !path & self.rng.byte(),
             _ => 1 << self.rng.lane_of(path),
         };
-        let bytes = match self.rng.below(5) {
+        let bytes = match self.rng.below(6) {
             0 | 1 => [lanes, self.rng.byte(), 0],
             2 | 3 => [0, self.rng.byte(), lanes],
             _ => [lanes, 0, lanes],
         };
         let mut errand = vec![self.page(0x10), write_event(130, &bytes)];
+        if self.rng.percent(15) {
+            // The path as it is, once more: something is pending beside.
+            errand.push(write_event(143, &[path]));
+            errand.extend(vec![Event::Work { lane }; path.count_ones() as usize + 1]);
+        }
         errand.extend((0..self.rng.below(4)).map(|_| Event::Hardware { lane }));
         errand.extend([self.page(0x10), write_event(130, &[0, 0, 0])]);
         self.begin(errand)

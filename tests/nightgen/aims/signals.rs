@@ -12,26 +12,26 @@ const TO_ITS_MASK: u8 = 79;
 
 impl Maker {
     pub(super) fn condition(&mut self) -> Event {
-        let lasting = match self.conditions {
+        let lasting = match self.kinds.conditions {
             Conditions::OneTime => false,
             Conditions::Lasting => true,
             Conditions::Both => self.rng.percent(60),
         };
-        if lasting {
-            self.lasting_condition()
-        } else {
-            self.one_time_condition()
+        if lasting && self.wild {
+            return self.lasting_condition();
         }
-    }
-
-    fn one_time_condition(&mut self) -> Event {
         let flag_byte = self.condition_flag();
         let mask = match self.rng.below(3) {
             0 => self.rng.byte(),
             1 => 0xFF,
             _ => 1 << self.rng.below(8),
         };
-        Event::Condition { flag_byte, mask }
+        // For measuring it lasts on the lanes of its mask and ends on the others.
+        if lasting {
+            Event::LastingCondition { flag_byte, on: mask, off: !mask }
+        } else {
+            Event::Condition { flag_byte, mask }
+        }
     }
 
     /// A flag byte that takes a condition, or now and then one that does not.

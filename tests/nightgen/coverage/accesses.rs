@@ -7,9 +7,10 @@ use second::module::*;
 use second::registers::*;
 
 impl Coverage {
-    /// A write that runs no command is the same as its bytes written one by
-    /// one. (One that runs a command is not: the command comes after all its
-    /// bytes. `look_at_command` says what it leaves.)
+    /// A write that ends in neither a command nor a reset is the same as its
+    /// bytes written one by one. (Others are not: the command or the reset comes
+    /// after all their bytes. `look_at_command` and the rules of `power` say what
+    /// they leave.)
     pub(super) fn look_at_write(&mut self, before: &State, address: u8, data: &[u8], after: &State) {
         let mut state = before.clone();
         let mut triggers = 0;
@@ -54,7 +55,7 @@ impl Coverage {
                     });
                 }
                 0..=125 => self.hit("pages", match place {
-                    31..=36 => "write on lower memory: byte takes it",
+                    26 | 31..=36 => "write on lower memory: byte takes it",
                     _ => "write on lower memory: byte ignores it",
                 }),
                 _ => {
@@ -100,10 +101,7 @@ impl Coverage {
                 }
             }
         }
-        assert!(
-            state.image == after.image && state.lanes == after.lanes,
-            "a write differs from its bytes written one by one"
-        );
+        assert!(state == *after, "a write differs from its bytes written one by one");
     }
 
     pub(super) fn look_at_read(&mut self, before: &State, address: u8, count: u8, after: &State) {

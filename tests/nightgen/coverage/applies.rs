@@ -14,11 +14,11 @@ impl Coverage {
         }
         if trigger == Trigger::ApplyImmediate && before.image[2] & 0x40 != 0 {
             self.hit("triggers", "ApplyImmediate switched off by 2.6");
-            assert!(before.lanes == after.lanes, "2.6 does not switch ApplyImmediate off");
+            assert!(before.working == after.working, "2.6 does not switch ApplyImmediate off");
             return;
         }
         let groups = groups(before, selected);
-        let mut expected = before.lanes;
+        let mut expected = before.working;
         let (mut ignored, mut marked) = (0, 0);
         for &group in &groups {
             let first = group.trailing_zeros() as u8;
@@ -45,6 +45,7 @@ impl Coverage {
                 self.hit("triggers", "group marked while another lane of its path is in progress");
             }
             self.look_at_lasting_group(before, group);
+            self.look_at_group_behind_reset(group);
             let (code, reason) = judge(before, trigger, group);
             self.hit("verdicts fixed by a trigger", reason);
             self.look_at_application(before, first, code, reason);
@@ -67,7 +68,7 @@ impl Coverage {
                     post_cursor: before.nibble(STAGED_POST_CURSOR, lane),
                     amplitude: before.nibble(STAGED_AMPLITUDE, lane),
                 };
-                expected[lane as usize].stage =
+                expected.lanes[lane as usize].stage =
                     Stage::InProgress(Apply { group, trigger, held, verdict });
             }
         }
@@ -78,7 +79,7 @@ impl Coverage {
             self.hit("triggers", "one group ignored, another marked");
         }
         assert!(
-            expected == after.lanes,
+            expected == after.working,
             "{:?} {:02x}: the core marks otherwise than the plain rules",
             trigger,
             selected

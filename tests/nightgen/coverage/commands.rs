@@ -5,7 +5,6 @@ use super::Coverage;
 use crate::aims::Slip;
 use crate::messages::*;
 use crate::state::State;
-use second::module::Event;
 use second::registers::*;
 
 const HEADING: &str = "command messages";
@@ -22,7 +21,7 @@ impl Coverage {
         slip: Option<Slip>,
     ) {
         assert!(
-            after.image == left_by_write(before, address, data) && before.lanes == after.lanes,
+            after.image == left_by_write(before, address, data) && before.working == after.working,
             "a command leaves otherwise than the plain rule"
         );
         let mut message = before.image;
@@ -46,7 +45,7 @@ impl Coverage {
                 self.hit(HEADING, "failed, the body stays");
             }
         }
-        self.look_at_completion(before, after);
+        self.look_at_module_flag(COMMAND_COMPLETE, before, after);
     }
 
     fn look_at_number(&mut self, message: &[u8; IMAGE_LEN], status: u8) {
@@ -194,31 +193,6 @@ impl Coverage {
         }
     }
 
-    fn look_at_completion(&mut self, before: &State, after: &State) {
-        let up = before.image[MODULE_FLAGS] & COMMAND_COMPLETE != 0;
-        let masked = after.image[MODULE_MASKS] & 0x40 != 0;
-        let raised = before.image[3] & 1 == 1 && after.image[3] & 1 == 0;
-        self.hit("completion flag", match (up, masked) {
-            (true, _) => "set again before it was read",
-            (false, true) => "set, masked",
-            (false, false) => "set, not masked",
-        });
-        if raised {
-            self.hit("completion flag", "raises the interrupt");
-            match after.image[MODULE_MASKS] {
-                0 => {}
-                0xBF => self.hit("completion flag", "raises the interrupt, 31 at bfh"),
-                _ => self.hit("completion flag", "raises the interrupt, other bits of 31 set"),
-            }
-        }
-        if masked && after.image[3] & 1 == 1 {
-            self.hit("completion flag", "masked, and no interrupt");
-            if after.image[MODULE_MASKS] == 0x40 {
-                self.hit("completion flag", "masked by 31 at 40h, and no interrupt");
-            }
-        }
-    }
-
     /// A write that holds 129 and runs nothing, and writes to what takes none.
     pub(super) fn look_at_no_command(&mut self, before: &State, address: u8, data: &[u8]) {
         let end = address as usize + data.len();
@@ -236,9 +210,6 @@ impl Coverage {
         if address <= 37 && end > 37 && before.image[COMMAND_STATUS] != 0 {
             self.hit(HEADING, "lower 37 ignores a write");
         }
-        if address <= 8 && end > 8 && before.image[MODULE_FLAGS] != 0 {
-            self.hit("completion flag", "lower 8 ignores a write");
-        }
     }
 
     /// A refused write that would hold 129.
@@ -249,13 +220,7 @@ impl Coverage {
     }
 
     /// Reads of what a command has left.
-    pub(super) fn look_at_answer_read(
-        &mut self,
-        before: &State,
-        address: u8,
-        count: u8,
-        after: &State,
-    ) {
+    pub(super) fn look_at_answer_read(&mut self, before: &State, address: u8, count: u8) {
         let (from, end) = (address as usize, address as usize + count as usize);
         if (from..end).contains(&37) {
             self.hit(HEADING, match before.image[COMMAND_STATUS] {
@@ -265,29 +230,8 @@ impl Coverage {
                 _ => "lower 37 read as 45h",
             });
         }
-        if (from..end).contains(&8) && before.image[MODULE_FLAGS] & COMMAND_COMPLETE != 0 {
-            assert_eq!(after.image[MODULE_FLAGS], 0, "a read leaves lower 8");
-            self.hit("completion flag", "cleared by a read of lower 8");
-            if before.image[3] & 1 == 0 && after.image[3] & 1 == 1 {
-                self.hit("completion flag", "interrupt ended by a read of lower 8");
-            }
-        }
         if before.page() == 0x9F && from <= 134 && end > 136 && before.image[REPLY_LENGTH] != 0 {
             self.hit(HEADING, "reply read with its header");
-        }
-    }
-
-    /// Masks written while the flag is up.
-    pub(super) fn look_at_command_mask(&mut self, before: &State, event: &Event, after: &State) {
-        let up = after.image[MODULE_FLAGS] & COMMAND_COMPLETE != 0;
-        let masks = (before.image[MODULE_MASKS] & 0x40, after.image[MODULE_MASKS] & 0x40);
-        if !up || !matches!(event, Event::Write { .. }) {
-            return;
-        }
-        match (masks, before.image[3] & 1, after.image[3] & 1) {
-            ((0, 0x40), 0, 1) => self.hit("completion flag", "interrupt ended by 31.6"),
-            ((0x40, 0), 1, 0) => self.hit("completion flag", "interrupt asserted by 31.6"),
-            _ => {}
         }
     }
 }

@@ -1,9 +1,11 @@
 //! Flags that stay true: how conditions and samples begin and end, what reads
 //! find of them, and what goes on beside them.
 
+use super::resets::CutOff;
 use super::Coverage;
 use crate::image::limit;
 use crate::lasting::*;
+use crate::power::is_reset;
 use crate::state::{passing, State};
 use second::module::Event;
 use second::night::Edition;
@@ -18,7 +20,7 @@ const APPLY: &str = "Apply on a lane with something on";
 /// What has become of the flags so far in a night.
 #[derive(Default)]
 pub struct Watch {
-    edition: u8,
+    pub edition: u8,
     /// The lanes whose flag a read has shown since it came on.
     shown: ByFlag,
     /// The lanes whose flag is up since its condition or sample ended.
@@ -27,7 +29,7 @@ pub struct Watch {
 }
 
 /// Whether one of these flag bytes has a lane.
-fn any_of(flag_bytes: &[u8], lanes: &ByFlag) -> bool {
+pub(super) fn any_of(flag_bytes: &[u8], lanes: &ByFlag) -> bool {
     flag_bytes.iter().any(|&flag_byte| lanes[index(flag_byte)] != 0)
 }
 
@@ -35,12 +37,18 @@ impl Coverage {
     /// A night of an edition begins.
     pub fn begin(&mut self, edition: Edition) {
         self.watch = Watch { edition: edition.number, ..Watch::default() };
+        self.cut_off = CutOff::default();
     }
 
     /// Looks at an event that is done with what is on in mind.
     pub(super) fn look_at_lasting(&mut self, before: &State, event: &Event, after: &State) {
         if let Err(what) = lasts_plainly(before, event, after) {
             panic!("{}", what);
+        }
+        if is_reset(event) {
+            // All of it is over, and none of it has ended by itself.
+            self.watch = Watch { edition: self.watch.edition, ..Watch::default() };
+            return;
         }
         match *event {
             Event::LastingCondition { flag_byte, on, off } => {
@@ -57,7 +65,7 @@ impl Coverage {
                     self.hit(APPLY, "its path moved by the hardware");
                 }
             }
-            Event::Condition { .. } => {}
+            Event::Condition { .. } | Event::Module | Event::Line { .. } => {}
         }
         self.watch_changes(before, event, after);
     }
@@ -201,7 +209,8 @@ impl Coverage {
             match self.watch.edition {
                 1 => self.hit(READS, "edition 1: received power comes back"),
                 2 => self.hit(READS, "edition 2: received power comes back"),
-                _ => self.hit(READS, "edition 3: received power comes back"),
+                3 => self.hit(READS, "edition 3: received power comes back"),
+                _ => self.hit(READS, "edition 4: received power comes back"),
             }
         }
     }
@@ -214,9 +223,10 @@ impl Coverage {
         after: &State,
     ) {
         let asserted = |state: &State| state.image[MODULE_STATE] & INTERRUPT_DEASSERTED == 0;
-        let of_a_command =
-            after.image[MODULE_FLAGS] & !after.image[MODULE_MASKS] & COMMAND_COMPLETE != 0;
-        if read.len() == 20 && asserted(after) && !of_a_command {
+        let of_the_module = after.image[MODULE_FLAGS]
+            & !after.image[MODULE_MASKS]
+            & (COMMAND_COMPLETE | MODULE_STATE_CHANGED);
+        if read.len() == 20 && asserted(after) && of_the_module == 0 {
             self.hit(MASKS, "interrupt stays by what comes back alone");
         }
         if (0..20).any(|k| back[k] & after.image[LANE_MASKS + k] != 0) {

@@ -4,15 +4,20 @@ mod accesses;
 mod applies;
 mod commands;
 mod lasting;
+mod module_flags;
 mod paths;
+mod power;
+mod resets;
 mod signals;
 mod wanted;
 
 use self::lasting::Watch;
+use self::resets::CutOff;
 use self::wanted::WANTED;
 use crate::aims::Slip;
 use crate::messages::runs_command;
 use crate::nights::Made;
+use crate::power::resets;
 use crate::state::State;
 use second::module::*;
 use second::night::Edition;
@@ -25,6 +30,7 @@ pub struct Coverage {
     counts: BTreeMap<(&'static str, &'static str), u64>,
     records: u64,
     watch: Watch,
+    cut_off: CutOff,
 }
 
 impl Coverage {
@@ -59,7 +65,7 @@ impl Coverage {
 
     /// Looks at a night as a file of an edition.
     pub fn look_at_edition(&mut self, edition: Edition, made: &Made) {
-        const NAMES: [[&str; 3]; 3] = [
+        const NAMES: [[&str; 3]; 4] = [
             ["edition 1", "edition 1 of 5000 records", "edition 1 with bytes on 9Fh left out"],
             [
                 "edition 2", "edition 2 of 5000 records",
@@ -68,6 +74,10 @@ impl Coverage {
             [
                 "edition 3", "edition 3 of 5000 records",
                 "edition 3 with bytes on 9Fh that start clears",
+            ],
+            [
+                "edition 4", "edition 4 of 5000 records",
+                "edition 4 with bytes on 9Fh that start clears",
             ],
         ];
         let [every, longest, on_9fh] = NAMES[edition.number as usize - 1];
@@ -94,15 +104,19 @@ impl Coverage {
         let done = outcome.answer == 0;
         match *event {
             Event::Write { address, count, data } => {
+                self.look_at_no_reset(address, count, &data, done);
                 if done {
                     self.hit("answers", "0 write");
                     let data = &data[..count as usize];
                     if runs_command(before, address, data.len()) {
                         self.hit("pages", "write on 9Fh");
                         self.look_at_command(before, address, data, after, slip);
+                    } else if resets(address, data) {
+                        self.look_at_reset(before, address, data);
                     } else {
                         self.look_at_write(before, address, data, after);
                         self.look_at_no_command(before, address, data);
+                        self.look_at_flags_written(before, address, data);
                     }
                 } else {
                     self.look_at_refused_write(before, address);
@@ -118,7 +132,8 @@ impl Coverage {
                 if done {
                     self.hit("answers", "0 read");
                     self.look_at_read(before, address, count, after);
-                    self.look_at_answer_read(before, address, count, after);
+                    self.look_at_answer_read(before, address, count);
+                    self.look_at_module_flags_read(before, address, count, after);
                 } else {
                     self.hit("answers", match (count, address) {
                         (0, _) => "4 read of count 0",
@@ -134,6 +149,7 @@ impl Coverage {
                     6 => "6 work on an idle lane",
                     _ => "8 work",
                 });
+                self.look_at_cut_off_lane(lane, outcome, true);
                 if done {
                     self.look_at_work(before, lane, outcome);
                 }
@@ -150,6 +166,7 @@ impl Coverage {
                     _ => "7 hardware on an unused lane in progress",
                 };
                 self.hit("answers", name);
+                self.look_at_cut_off_lane(lane, outcome, false);
                 if done {
                     self.look_at_path(before, lane, after);
                 }
@@ -184,10 +201,13 @@ impl Coverage {
                     self.look_at_sample(before, value);
                 }
             }
+            Event::Module => self.hit("answers", "0 module"),
+            Event::Line { .. } => self.hit("answers", "0 line"),
         }
         if done {
             self.look_at_interrupt(before, event, after);
-            self.look_at_command_mask(before, event, after);
+            self.look_at_module_masks(before, event, after);
+            self.look_at_power(before, event, after);
             self.look_at_lasting(before, event, after);
         }
     }

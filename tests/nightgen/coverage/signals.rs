@@ -3,6 +3,7 @@
 use super::Coverage;
 use crate::image::{limit, limits};
 use crate::messages::runs_command;
+use crate::power::is_reset;
 use crate::rules::interrupts;
 use crate::state::State;
 use second::module::*;
@@ -71,6 +72,10 @@ impl Coverage {
             _ => (false, false),
         };
         match (asserted(before), asserted(after)) {
+            (false, true) if *event == Event::Module => {
+                self.hit("flags", "interrupt asserted by a module event")
+            }
+            (true, false) if is_reset(event) => self.hit("flags", "interrupt ended by a reset"),
             (false, true) if by_command => self.hit("flags", "interrupt asserted by a command"),
             (false, true) if by_host_write => self.hit("flags", "interrupt asserted by unmasking"),
             (false, true) => self.hit("flags", "interrupt asserted by an event"),

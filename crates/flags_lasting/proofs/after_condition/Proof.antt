@@ -16,7 +16,8 @@ use Rattle.flags_lasting.proofs.after_condition.Statement.{statement}
 use Rattle.flags_lasting.proofs.after_condition.Tie as tie
 
 abbrev Inv-loop : tie.InvT-loop
-Inv-loop flag on off next₀ lane₀ next lane = (lane ≤ laneCount) × (next .lanes ≡ each (λ l. true) (turned (conditionOn flag on off)) lane (next₀ .lanes))
+Inv-loop flag on off next₀ lane₀ next lane =
+    (lane ≤ laneCount) × (next .line ≡ next₀ .line) × (next .lanes ≡ each (λ l. true) (turned (conditionOn flag on off)) lane (next₀ .lanes))
 
 abbrev μ-loop : tie.MeasureT-loop
 μ-loop flag on off next₀ lane₀ next lane = laneCount - lane
@@ -25,7 +26,8 @@ loop-again : tie.Need-loop-again Inv-loop μ-loop
 unfolding withOn
 loop-again c =
     let after = condition-by _ _ _ _ _ _ _ _ _ (c .before .before .before .before .is-on .ensures) (c .before .before .before .is-in .ensures) (c .before .before .is-in2 .ensures) (c .before .with-flag .ensures) in
-    (search needs, rw after (each-turn _ _ _ _ _ (c .before .before .before .before .before .before .loop .inv .1) refl))
+    let i = c .before .before .before .before .before .before .loop .inv in
+    (search needs, i .1, rw after (each-turn _ _ _ _ _ (i .2) refl))
 
 returns : tie.Need-returns Inv-loop μ-loop
 unfolding pick
@@ -33,7 +35,7 @@ returns c =
     let e : c .before .loop .lane ≡ laneCount = omega arith in
     let eight = simp length-map at (c .before .before .good .0 .1 .1 .0 .1 .0 .1) in
     let a = c .before .before .args in
-    ons-loop (λ l. true) (conditionOn (a .flag) (a .on) (a .off)) _ _ eight (rw e at (c .before .loop .inv .1))
+    ons-loop (λ l. true) (conditionOn (a .flag) (a .on) (a .off)) _ _ eight (c .before .loop .inv .1) (rw e at (c .before .loop .inv .2))
 
 pub after-condition-spec : {M : Type 1} → statement M
 after-condition-spec =
@@ -41,7 +43,7 @@ after-condition-spec =
     (tie.spec
     Inv-loop
     μ-loop
-    (λ c. (search needs, each-begin _ _ _))
+    (λ c. (search needs, refl, each-begin _ _ _))
     (λ c. search needs)
     (λ c. search needs)
     (λ c. search needs)

@@ -19,5 +19,6 @@ writable-spec =
     (λ c κs. search needs)
     (λ c κs. search needs)
     (λ c κs. search needs)
-    (λ c. all-tests (then-test (then-test (then-test (then-test (then-test (then-test (then-test (first-test (c .before .before .before .before .before .before .before .on-page .ensures)) (c .before .before .before .before .before .before .within .ensures)) (c .before .before .before .before .before .within2 .ensures)) (c .before .before .before .before .on-page2 .ensures)) (c .before .before .before .on-page3 .ensures)) (c .before .before .on-page4 .ensures)) (c .before .on-page5 .ensures)) (c .on-page6 .ensures))
-    ∙ reordered _ _ _ _ _ _ _ _))
+    (λ c κs. search needs)
+    (λ c. all-tests (then-test (then-test (then-test (then-test (then-test (then-test (then-test (then-test (first-test (c .before .before .before .before .before .before .before .before .on-page .ensures)) (c .before .before .before .before .before .before .before .within .ensures)) (c .before .before .before .before .before .before .within2 .ensures)) (c .before .before .before .before .before .within3 .ensures)) (c .before .before .before .before .on-page2 .ensures)) (c .before .before .before .on-page3 .ensures)) (c .before .before .on-page4 .ensures)) (c .before .on-page5 .ensures)) (c .on-page6 .ensures))
+    ∙ reordered _ _ _ _ _ _ _ _ _))

@@ -1,29 +1,18 @@
--- `night_events::call_of` meets its contract: each arm's kind picks its call, among the six forms of every edition. Assumes nothing.
-use native.Mathlib.Omega.{arith}
-use lib.Dec.{eqb}
-use borrow.Author.Tests.{ne-eqb}
-use Rattle.bits.specs.Choice.{pick}
-use Rattle.bits.proofs.Tests.{split}
-use Rattle.model.specs.File.{kindOf, sampleKind, callOf}
-use Rattle.model.proofs.Editions.{six-forms}
+-- `night_events::call_of` meets its contract: each arm's kind picks its call, among the forms of every edition. Assumes nothing.
+use mathlib.Core.Path.{_∙_}
 use borrow.Author.Needs.{needs}
+use Rattle.bits.specs.Choice.{pick}
+use Rattle.model.specs.File.{callOf}
+use Rattle.model.proofs.Editions.{six-forms}
+use Rattle.night_events.proofs.Calls.{other-call}
 use Rattle.night_events.proofs.call_of.Statement.{statement}
 use Rattle.night_events.proofs.call_of.Tie as tie
 
 -- a sample, and a kind that is not listed
-returns-6 : tie.Need-returns-6
-unfolding callOf pick
-returns-6 c =
-    let a = c .before .before .before .before .before .before .args in
-    rw (
-      six-forms (a .edition) .forms,
-      ne-eqb _ _ (c .before .match .rest .0 .0 .0 .0 .1),
-      ne-eqb _ _ (c .before .match .rest .0 .0 .0 .1),
-      ne-eqb _ _ (c .before .match .rest .0 .0 .1),
-      ne-eqb _ _ (c .before .match .rest .0 .1),
-      ne-eqb _ _ (c .before .match .rest .1),
-    )
-    (split (eqb (kindOf (a .bytes .now)) sampleKind) (λ t. rw (t, pick)) (λ t. rw (t, pick)))
+returns-8 : tie.Need-returns-8
+returns-8 c =
+    let r = c .before .match .rest in
+    c .sample-call .ensures ∙ other-call _ _ (r .0 .0 .0 .0 .0 .0 .1) (r .0 .0 .0 .0 .0 .1) (r .0 .0 .0 .0 .1) (r .0 .0 .0 .1) (r .0 .0 .1) (r .0 .1) (r .1)
 
 pub call-of-spec : {M : Type 1} → statement M
 unfolding callOf pick
@@ -34,14 +23,14 @@ call-of-spec =
     (λ c. search needs)
     (λ c. search needs)
     (λ c κs. search needs)
-    (λ c. omega (arith, c .before .shared-slice-known4 .given 2))
-    (λ c. omega (arith, c .before .shared-slice-known4 .given 2))
-    (λ c. search needs)
-    (λ c. omega (arith, c .shared-slice-known5 .given 3))
-    (λ c. omega (arith, c .shared-slice-known5 .given 2, c .shared-slice-known5 .given 3))
+    (λ c κs. search needs)
+    (λ c κs. search needs)
+    (λ c κs. search needs)
     (λ c. rw (six-forms (c .before .before .before .before .before .args .edition) .forms, c .match .keys1))
     (λ c. rw (six-forms (c .before .before .before .before .before .args .edition) .forms, c .match .keys2))
     (λ c. rw (six-forms (c .before .before .before .before .before .args .edition) .forms, c .match .keys3))
     (λ c. rw (six-forms (c .before .before .before .before .before .args .edition) .forms, c .match .keys4))
     (λ c. search needs)
-    returns-6)
+    (λ c. search needs)
+    (λ c. search needs)
+    returns-8)

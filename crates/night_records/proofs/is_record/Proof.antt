@@ -1,53 +1,25 @@
--- `night_records::is_record` meets its contract: each arm's kind picks its count of used bytes, among the six forms of every edition. Assumes nothing.
+-- `night_records::is_record` meets its contract: a write by its data, any other kind by the limit of the bytes behind it. Assumes nothing.
 use native.Mathlib.Omega.{arith}
-use mathlib.Core.Path.{ap, _∙_}
-use Prim.Native.Nat.{ℕ}
-use lib.Dec.{eqb}
-use borrow.Author.Tests.{ne-eqb}
-use Rattle.bits.specs.Choice.{pick, both}
-use Rattle.model.specs.File.{writtenBytes, usedBytes, isRecord}
-use Rattle.model.proofs.Editions.{six-forms}
-use Rattle.night_records.proofs.Records.{record-by, tail-none}
+use mathlib.Core.Path.{_∙_}
 use borrow.Author.Needs.{needs}
+use Rattle.bits.specs.Choice.{pick}
+use Rattle.bits.proofs.Tests.{and-both}
+use Rattle.model.specs.File.{writtenBytes, usedBytes}
+use Rattle.model.proofs.Editions.{six-forms}
+use Rattle.night_records.proofs.Records.{record-by, front-is}
 use Rattle.night_records.proofs.is_record.Statement.{statement}
 use Rattle.night_records.proofs.is_record.Tie as tie
 
-returns-6 : tie.Need-returns-6
-unfolding usedBytes pick
-returns-6 c =
-    let a = c .before .before .before .before .args in
-    let none = tail-none (a .bytes .now) (λ i. omega (arith, c .before .before .before .shared-slice-known .given i)) in
-    record-by _ _ _ _ (ap (λ (t : ℕ). eqb t 0) (c .before .before .tail-of .ensures) ∙ none) (rw (six-forms (a .edition) .forms, c .match .keys6)) (omega arith)
+returns : tie.Need-returns
+unfolding usedBytes writtenBytes pick
+returns c =
+    record-by _ _ _ _ (c .is-write .ensures) (rw (six-forms (c .before .before .before .before .before .args .edition) .forms, c .before .if1 .taken)) (omega arith)
 
-returns-7 : tie.Need-returns-7
-unfolding isRecord usedBytes pick both
-returns-7 c =
-    rw (
-      six-forms (c .before .before .before .before .args .edition) .forms,
-      ne-eqb _ _ (c .match .rest .0 .0 .0 .0 .0 .1),
-      ne-eqb _ _ (c .match .rest .0 .0 .0 .0 .1),
-      ne-eqb _ _ (c .match .rest .0 .0 .0 .1),
-      ne-eqb _ _ (c .match .rest .0 .0 .1),
-      ne-eqb _ _ (c .match .rest .0 .1),
-      ne-eqb _ _ (c .match .rest .1),
-    )
+returns-2 : tie.Need-returns-2
+returns-2 c =
+    let a = c .before .before .before .before .before .before .args in
+    rw (c .before .before .before .before .tail-of .ensures, c .front-of .ensures, c .before .front-limit .ensures)
+    (and-both _ _ ∙ front-is (a .bytes .now) (λ i. omega (arith, c .before .before .before .shared-slice-known2 .given i)) (a .edition) (c .before .before .if1 .left))
 
 pub is-record-spec : {M : Type 1} → statement M
-unfolding usedBytes writtenBytes pick
-is-record-spec =
-    tie.close
-    (tie.spec
-    (λ c κs. search needs)
-    (λ c. search needs)
-    (λ c κs. search needs)
-    (λ c κs. search needs)
-    (λ c κs. search needs)
-    (λ c κs. search needs)
-    (λ c κs. search needs)
-    (λ c. record-by _ _ _ _ (c .is-write .ensures) (rw (six-forms (c .before .before .before .before .before .args .edition) .forms, c .before .match .keys1)) (omega arith))
-    (λ c. record-by _ _ _ _ (c .is-clear-from-3 .ensures) (rw (six-forms (c .before .before .before .before .before .args .edition) .forms, c .before .match .keys2)) (omega arith))
-    (λ c. record-by _ _ _ _ (c .is-clear-from-2 .ensures) (rw (six-forms (c .before .before .before .before .before .args .edition) .forms, c .before .match .keys3)) (omega arith))
-    (λ c. record-by _ _ _ _ (c .is-clear-from-22 .ensures) (rw (six-forms (c .before .before .before .before .before .args .edition) .forms, c .before .match .keys4)) (omega arith))
-    (λ c. search needs)
-    returns-6
-    returns-7)
+is-record-spec = tie.close (tie.spec (λ c κs. search needs) (λ c. search needs) (λ c κs. search needs) returns (λ c κs. search needs) (λ c κs. search needs) returns-2)

@@ -81,8 +81,9 @@ loop-again c =
     let r = stood (l .image) (l .out) (l .taken) (l .reached) (l .k) in
     let h = enough r bytes (i .4) (i .5) (c .before .before .before .before .before .before .before .before .before .before .before .before .if1 .left) in
     let good = sym (c .before .before .before .before .before .before .before .before .before .before .is-record .ensures) ∙ not-false _ (c .before .before .before .before .before .before .before .before .before .if2 .left) in
-    let n : a .records - l .k ≡ suc (a .records - (l .k + 1)) = omega arith in (
-      omega arith,
+    let more = c .before .before .before .before .before .before .before .before .before .before .before .before .before .before .loop-test .taken in
+    let n : a .records - l .k ≡ suc (a .records - (l .k + 1)) = omega (arith, more) in (
+      omega (arith, more),
       t .kept .0 ∙ i .1,
       t .kept .1 .1 .0 ∙ i .2,
       t .kept .1 .1 .1 .1 .1 .1 .0 ∙ i .3,

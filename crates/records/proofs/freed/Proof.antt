@@ -1,7 +1,7 @@
 -- `records::freed` meets its contract. The loop's invariant: what the loop over the lanes passed leaves. Assumes nothing.
 use borrow.Author.Needs.{needs}
 use native.Mathlib.Omega.{arith}
-use mathlib.Core.Path.{_≡_, sym, _∙_}
+use mathlib.Core.Path.{_≡_, refl, sym, _∙_}
 use mathlib.Core.Logic.{⊎-elim}
 use Prim.Native.Nat.{_≤_, _-_}
 use lib.ListN.{length-map}
@@ -15,7 +15,7 @@ use Rattle.records.proofs.freed.Statement.{statement}
 use Rattle.records.proofs.freed.Tie as tie
 
 abbrev Inv-loop : tie.InvT-loop
-Inv-loop group next₀ lane₀ next lane = (lane ≤ laneCount) × (next .lanes ≡ each (has group) (restaged (λ k s. Idle)) lane (next₀ .lanes))
+Inv-loop group next₀ lane₀ next lane = (lane ≤ laneCount) × (next .line ≡ next₀ .line) × (next .lanes ≡ each (has group) (restaged (λ k s. Idle)) lane (next₀ .lanes))
 
 abbrev μ-loop : tie.MeasureT-loop
 μ-loop group next₀ lane₀ next lane = laneCount - lane
@@ -25,8 +25,8 @@ loop-again c =
     let i = c .before .before .before .loop .inv in
     let bit = c .before .is-in .ensures in
     ⊎-elim
-    (λ w. (search needs, rw (w .3, w .2 .ensures) (each-turn _ _ _ _ _ (i .1) (sym bit ∙ w .0 .taken))))
-    (λ w. (search needs, rw (w .1) (each-pass _ _ _ _ _ (i .1) (sym bit ∙ w .0 .left))))
+    (λ w. (search needs, rw (w .3) (i .1), rw (w .3, w .2 .ensures) (each-turn _ _ _ _ _ (i .2) (sym bit ∙ w .0 .taken))))
+    (λ w. (search needs, rw (w .1) (i .1), rw (w .1) (each-pass _ _ _ _ _ (i .2) (sym bit ∙ w .0 .left))))
     (c .if1 .came)
 
 returns : tie.Need-returns Inv-loop μ-loop
@@ -34,7 +34,7 @@ unfolding freedWorking
 returns c =
     let e : c .before .loop .lane ≡ laneCount = omega arith in
     let eight = simp length-map at (c .before .before .good .0 .1 .1 .0 .1 .0 .1) in
-    stages-loop _ (λ k s. Idle) _ _ eight (rw e at (c .before .loop .inv .1))
+    stages-loop _ (λ k s. Idle) _ _ eight (c .before .loop .inv .1) (rw e at (c .before .loop .inv .2))
 
 pub freed-spec : {M : Type 1} → statement M
 freed-spec =
@@ -42,7 +42,7 @@ freed-spec =
     (tie.spec
     Inv-loop
     μ-loop
-    (λ c. (search needs, each-begin _ _ _))
+    (λ c. (search needs, refl, each-begin _ _ _))
     (λ c κs. search needs)
     (λ c. search needs)
     (λ c. search needs)

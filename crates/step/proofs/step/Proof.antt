@@ -35,10 +35,22 @@ returns-7 : tie.Need-returns-7
 unfolding eventRefusals eventEffect
 returns-7 c = elsewhere _ _ _ _ _ _ _ _ (c .before .before .before .before .before .call7 .given .1) refl refl (c .before .before .lasting .ensures)
 
+returns-8 : tie.Need-returns-8
+unfolding eventRefusals eventEffect
+returns-8 c = elsewhere _ _ _ _ _ _ _ _ (c .before .before .before .before .enum-told .given .1) refl refl (c .before .before .move-module .ensures)
+
+returns-9 : tie.Need-returns-9
+unfolding eventRefusals eventEffect
+returns-9 c = elsewhere _ _ _ _ _ _ _ _ (c .before .before .before .before .before .call8 .given .1) refl refl (c .before .before .set-line .ensures)
+
 pub step-spec : {M : Type 1} → statement M
 step-spec =
     tie.close
     (tie.spec
+    (λ c. search needs)
+    (λ c κs. search needs)
+    (λ c. search needs)
+    (λ c κs. search needs)
     (λ c. search needs)
     (λ c κs. search needs)
     (λ c. search needs)
@@ -67,4 +79,8 @@ step-spec =
     (λ c. search needs)
     returns-6
     (λ c. search needs)
-    returns-7)
+    returns-7
+    (λ c. search needs)
+    returns-8
+    (λ c. search needs)
+    returns-9)

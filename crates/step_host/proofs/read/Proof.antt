@@ -7,7 +7,7 @@ use Rattle.model.specs.declared.answer.Answer.the-variants.{BadAccess, ShortBuf
 use Rattle.access_limits.proofs.Halves.{good-access}
 use Rattle.step_answers.proofs.Outcomes.{refused-leaves, done-leaves}
 use Rattle.step_answers.proofs.Answered.{read-bad, read-short, read-done}
-use Rattle.step_host.proofs.Ends.{read-shown, read-ended}
+use Rattle.step_host.proofs.Ends.{read-shown}
 use Rattle.step_host.proofs.read.Statement.{statement}
 use Rattle.step_host.proofs.read.Tie as tie
 
@@ -23,8 +23,8 @@ show-flags-requires c κs =
     let g = good-access 128 _ _ (sym (c .before .before .before .before .before .before .before .before .before .before .bad-access .ensures) ∙ c .before .before .before .before .before .before .before .before .before .if1 .left) in
     (search needs, g .1)
 
-end-access-requires : tie.Need-end-access-requires
-end-access-requires c κs = search needs
+settle-requires : tie.Need-settle-requires
+settle-requires c κs = search needs
 
 returns-3 : tie.Need-returns-3
 unfolding eventEffect readEffect
@@ -32,11 +32,10 @@ returns-3 c =
     let good = sym (c .before .before .before .before .before .before .before .before .before .before .before .before .before .before .before .before .before .before .bad-access .ensures) ∙ c .before .before .before .before .before .before .before .before .before .before .before .before .before .before .before .before .before .if1 .left in
     let w = c .before .before .before .before .before .before .before .before .before .before .before .before .before .read .ensures in
     let again = c .before .before .before .before .before .before .before .show-flags .ensures in
-    let end = c .before .before .before .end-access .ensures in
     let r = c .reply3 .ensures in
     done-leaves _ _ _ _ _ _ _ _ _ (read-done _ _ _ _ good (c .before .before .before .before .before .before .before .before .before .before .before .before .before .before .before .before .if2 .left)) refl (ap (λ t. t .answer) r)
     (read-shown _ _ _ _ _ _ (w .image) again)
-    (read-ended _ _ _ end) (ap (λ t. t .working) r) (w .bytes) (ap (λ t. t .mask) r)
+    (c .before .before .before .settle .ensures) (ap (λ t. t .working) r) (w .bytes) (ap (λ t. t .mask) r)
 
 pub read-spec : {M : Type 1} → statement M
 unfolding isDone
@@ -50,7 +49,7 @@ read-spec =
     returns-2
     (λ c κs. let g = good-access 128 _ _ (sym (c .before .before .before .before .bad-access .ensures) ∙ c .before .before .before .if1 .left) in search needs)
     show-flags-requires
-    end-access-requires
+    settle-requires
     (λ c κs. search needs)
     (λ c. search needs)
     (λ c. search needs)

@@ -23,8 +23,10 @@ use Rattle.step_host.proofs.write.Tie as tie
 
 -- all the bytes that a write takes are written
 all-written : (address count : ℕ) (bytes : List ℕ) (s : State) (x : Image) (w : Working) → count ≤ length bytes
-    → IsState (settledState (endedState address (length (take count bytes)) s)) x w → IsState (settledState (endedState address count s)) x w
-all-written address count bytes s x w h = subst (λ n. IsState (settledState (endedState address n s)) x w) (sym (length-taken count bytes h))
+    → IsState (settledState (endedState address (take count bytes) (length (take count bytes)) s)) x w
+    → IsState (settledState (endedState address (take count bytes) count s)) x w
+all-written address count bytes s x w h =
+    subst (λ n. IsState (settledState (endedState address (take count bytes) n s)) x w) (sym (length-taken count bytes h))
 
 array-share-prefix-bytes : tie.Need-array-share-prefix-bytes
 array-share-prefix-bytes c =

@@ -1,16 +1,30 @@
 -- `step_host::write_bytes` meets its contract. Assumes nothing.
 use borrow.Author.Needs.{needs}
-use mathlib.Core.Path.{ap, _∙_}
-use Rattle.model.specs.Flags.{settledImage}
-use Rattle.step_host.proofs.Ends.{write-ended, records-kept}
+use mathlib.Core.Path.{sym, _∙_}
+use native.Mathlib.Omega.{arith}
+use Rattle.access_limits.proofs.Halves.{half-ends}
+use Rattle.step_host.proofs.Ends.{plain-ended, write-ended}
 use Rattle.step_host.proofs.write_bytes.Statement.{statement}
 use Rattle.step_host.proofs.write_bytes.Tie as tie
 
 returns : tie.Need-returns
 returns c =
-    let w = c .before .before .before .before .before .before .write .ensures in
-    let e = c .before .before .end-access .ensures in
-    record { image = e ∙ ap settledImage (write-ended _ _ _ _ (w .image)); working = records-kept _ _ _ (w .working) }
+    let s = c .before .before .before .before .before .before .before .before .before in
+    plain-ended _ _ _ _ _ (s .pre .1) (sym (c .before .before .before .before .before .is-plain .ensures) ∙ c .before .before .before .before .if1 .taken) (c .before .before .write-plain .ensures)
+
+returns-2 : tie.Need-returns-2
+returns-2 c = write-ended _ _ _ (c .before .before .before .before .before .before .before .before .before .before .write-each .ensures) (c .before .before .before .before .before .before .end-write .ensures) (c .before .before .settle .ensures)
 
 pub write-bytes-spec : {M : Type 1} → statement M
-write-bytes-spec = tie.close (tie.spec (λ c κs. search needs) (λ c κs. search needs) (λ c. search needs) returns)
+write-bytes-spec =
+    tie.close
+    (tie.spec
+    (λ c κs. (search needs, omega (arith, half-ends (c .before .before .before .args .address))))
+    (λ c κs. search needs)
+    (λ c. search needs)
+    returns
+    (λ c κs. search needs)
+    (λ c κs. search needs)
+    (λ c κs. search needs)
+    (λ c. search needs)
+    returns-2)

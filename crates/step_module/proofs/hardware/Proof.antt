@@ -1,8 +1,10 @@
 -- `step_module::hardware` meets its contract. Assumes nothing.
 use borrow.Author.Needs.{needs}
-use mathlib.Core.Path.{refl, sym, _∙_}
+use mathlib.Core.Path.{refl, sym, ap, _∙_}
+use denote.Ref.{now}
 use borrow.Author.Tests.{not-true, not-false}
 use Rattle.model.specs.Answers.{isDone}
+use Rattle.model.specs.Hardware.{hardwareImage}
 use Rattle.model.specs.Step.{eventEffect}
 use Rattle.model.specs.declared.answer.Answer.the-variants.{NoSuchTarget, Busy, NothingOnLane}
 use Rattle.step_answers.proofs.Outcomes.{refused-leaves, image-leaves}
@@ -28,10 +30,12 @@ returns-3 c =
 returns-4 : tie.Need-returns-4
 unfolding eventEffect
 returns-4 c =
-    let lane = c .before .before .before .before .before .before .before .before .before .before .before .before .before .before .before .if1 .left in
-    let free = sym (c .before .before .before .before .before .before .before .before .before .before .before .before .before .is-busy .ensures) ∙ c .before .before .before .before .before .before .before .before .before .before .before .before .if2 .left in
-    let used = sym (c .before .before .before .before .before .before .before .before .before .before .used-at .ensures) ∙ not-false _ (c .before .before .before .before .before .before .before .before .before .if3 .left) in
-    image-leaves _ _ _ _ _ _ _ _ (hardware-done _ _ _ lane free used) refl (c .before .before .before .before .before .before .before .move-path .ensures) (c .before .before .before .settle .ensures) (c .reply4 .ensures)
+    let a = c .before .before .before .before .before .before .before .before .before .before .before .before .before .before .before .before .before .before .before .args in
+    let lane = c .before .before .before .before .before .before .before .before .before .before .before .before .before .before .before .before .before .if1 .left in
+    let free = sym (c .before .before .before .before .before .before .before .before .before .before .before .before .before .before .before .is-busy .ensures) ∙ c .before .before .before .before .before .before .before .before .before .before .before .before .before .before .if2 .left in
+    let used = sym (c .before .before .before .before .before .before .before .before .before .before .before .before .used-at .ensures) ∙ not-false _ (c .before .before .before .before .before .before .before .before .before .before .before .if3 .left) in
+    let moved = c .before .before .before .before .before .before .before .move-path .ensures ∙ ap (λ d. hardwareImage d (now (a .image)) (a .lane)) (c .before .before .before .before .before .before .before .before .before .holds-down .ensures) in
+    image-leaves _ _ _ _ _ _ _ _ (hardware-done _ _ _ lane free used) refl moved (c .before .before .before .settle .ensures) (c .reply4 .ensures)
 
 pub hardware-spec : {M : Type 1} → statement M
 unfolding isDone
@@ -48,6 +52,7 @@ hardware-spec =
     (λ c κs. search needs)
     (λ c. search needs)
     returns-3
+    (λ c κs. search needs)
     (λ c κs. search needs)
     (λ c κs. search needs)
     (λ c κs. search needs)

@@ -1,0 +1,2 @@
+-- When a write resets the module.
+pub mod Resetting

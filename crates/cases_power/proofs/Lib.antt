@@ -1,0 +1,2 @@
+-- The cases of the module's power, computed.
+pub mod Power

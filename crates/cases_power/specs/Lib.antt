@@ -1,0 +1,2 @@
+-- The cases of the module's power.
+pub mod Power

@@ -1,0 +1,2 @@
+-- The calls of records.
+pub mod Calls

@@ -1,0 +1,2 @@
+-- Which bytes show as they are stored.
+pub mod Hidden
