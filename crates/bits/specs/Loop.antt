@@ -11,10 +11,10 @@ unfoldable pub each {ℓ} : {A : Type ℓ} → (ℕ → Bool) → (ℕ → A →
 each c f zero a = a
 each c f (suc n) a = onlyIf (c n) (f n) (each c f n a)
 
--- the values of f at the numbers below n
+-- the values of f at the numbers below n. What a `let` binds the checker computes only when it is asked for, so a case pays for the values that it reads
 unfoldable pub tab {ℓ} : {A : Type ℓ} → ℕ → (ℕ → A) → List A
 tab zero f = []
-tab (suc n) f = f 0 ∷ tab n (λ k. f (suc k))
+tab (suc n) f = let v = f 0 in let rest = tab n (λ k. f (suc k)) in v ∷ rest
 
 -- a number below n passes the test
 unfoldable pub anyBelow : ℕ → (ℕ → Bool) → Bool

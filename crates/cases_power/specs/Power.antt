@@ -123,6 +123,15 @@ resets =
       events = write 25 (0xff ∷ 0x08 ∷ 0x00 ∷ 0x00 ∷ 0x00 ∷ 0x00 ∷ 0xff ∷ 0xff ∷ []) ∷ read 3 1 ∷ read 26 1 ∷ read 31 2 ∷ read 8 1 ∷ [];
       seen = "0 0" ∷ "1 0 03" ∷ "2 0 40" ∷ "3 0 00 00" ∷ "4 0 00" ∷ [];
     })
+    -- from ModulePwrUp and from ModulePwrDn too the module is in ModuleLowPwr at once, with no flag
+    ∷ holds (record {
+      image = blank;
+      events =
+          moduleEvent ∷ read 3 1 ∷ write 26 (0x08 ∷ []) ∷ read 3 1 ∷ moduleEvent ∷ write 26 (0x50 ∷ []) ∷ moduleEvent ∷ read 3 1 ∷ write 26 (0x58 ∷ [])
+          ∷ read 3 1 ∷ read 8 1 ∷ read 26 1 ∷ [];
+      seen =
+          "0 0" ∷ "1 0 05" ∷ "2 0" ∷ "3 0 03" ∷ "4 0" ∷ "5 0" ∷ "6 0" ∷ "7 0 09" ∷ "8 0" ∷ "9 0 03" ∷ "10 0 00" ∷ "11 0 40" ∷ [];
+    })
     -- one in the middle of an Apply drops it; the page select, a sample and the module's state start anew, and the line is as it was
     ∷ holds (record {
       image = fourLanes;

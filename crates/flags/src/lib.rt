@@ -31,7 +31,7 @@ pub fn condition(image: &mut [u8], flag: u8, mask: u8)
     requires { ⌜ (length (now image) ≡ imageLength) × (128 ≤ flag) ⌝ }
     ensures { λ _. ⌜ now (image .exit) ≡ conditionImage flag mask (now (image .entry)) ⌝ }
 {
-    bits_lanes::set_bits(image, map::on(map::PAGE_11, flag), mask)
+    bits_together::set_bits(image, map::on(map::PAGE_11, flag), mask)
 }
 
 // A lane's bit of a flag byte, set where the test holds.

@@ -1,3 +1,2 @@
--- Replacing what is on, and what shows again.
+-- Replacing what is on.
 pub mod Ons
-pub mod Shown

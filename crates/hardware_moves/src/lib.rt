@@ -7,47 +7,8 @@ ghost use Rattle.bits.specs.Sets.{has, laneCount};
 ghost use Rattle.model.specs.Map.{stateChangedFlag, imageLength};
 ghost use Rattle.model.specs.PathStates.{resting};
 ghost use Rattle.model.specs.Registers.{withPending, withFlags};
-ghost use Rattle.model.specs.Hardware.{nextState, isInitialized, enteredImage, movedImage, hardwareImage};
+ghost use Rattle.model.specs.Hardware.{isInitialized, enteredImage, movedImage, hardwareImage};
 use model::path::PathState;
-use model::path::Signals;
-
-// The state that follows, by the path's signals.
-fn next_state(from: PathState, by: Signals) -> PathState
-    ensures { λ to. ⌜ to ≡ nextState from by ⌝ }
-{
-    match from {
-        PathState::Reserved => PathState::Reserved,
-        PathState::Deactivated => if by.deinit {
-            PathState::Deactivated
-        } else {
-            PathState::Init
-        },
-        PathState::Init => if by.deinit {
-            PathState::Deinit
-        } else {
-            PathState::Initialized
-        },
-        PathState::Deinit => PathState::Deactivated,
-        PathState::Activated => if by.deactivate {
-            PathState::TxTurnOff
-        } else {
-            PathState::Activated
-        },
-        PathState::TxTurnOn => if by.deactivate {
-            PathState::TxTurnOff
-        } else {
-            PathState::Activated
-        },
-        PathState::TxTurnOff => PathState::Initialized,
-        PathState::Initialized => if by.reinit {
-            PathState::Deinit
-        } else if by.deactivate {
-            PathState::Initialized
-        } else {
-            PathState::TxTurnOn
-        },
-    }
-}
 
 // Whether DPInitialized is reached from DPInit.
 fn is_initialized(from: PathState, to: PathState) -> bool
@@ -62,7 +23,7 @@ fn clear_pending(image: &mut [u8], path: u8, from: PathState, to: PathState)
     ensures { λ _. ⌜ now (image .exit) ≡ onlyIf (isInitialized from to) (withPending (has path) 0) (now (image .entry)) ⌝ }
 {
     if is_initialized(from, to) {
-        bits_lanes::clear_bits(image, map::PENDING, path);
+        bits_together::clear_bits(image, map::PENDING, path);
     }
 }
 
@@ -72,7 +33,7 @@ fn flag_change(image: &mut [u8], path: u8, to: PathState)
     ensures { λ _. ⌜ now (image .exit) ≡ onlyIf (resting to) (withFlags stateChangedFlag path) (now (image .entry)) ⌝ }
 {
     if view_paths::is_resting(to) {
-        bits_lanes::set_bits(image, map::STATE_CHANGED, path);
+        bits_together::set_bits(image, map::STATE_CHANGED, path);
     }
 }
 
@@ -103,6 +64,6 @@ pub fn move_path(image: &mut [u8], down: bool, lane: u8)
 {
     let path = view_paths::path_of(image, lane);
     let from = PathState::of(bits_lanes::nibble(image, map::STATES, lane));
-    let to = next_state(from, hardware_signals::signals_of(image, down, path));
+    let to = hardware_table::next_state(from, hardware_signals::signals_of(image, down, path));
     move_to(image, path, from, to);
 }

@@ -51,8 +51,8 @@ AllIn g s = (m : ℕ) → m < laneCount → has g m ≡ true → InGroup g (stag
 abbrev pub AllIdle : ℕ → State → Type 0
 AllIdle g s = (m : ℕ) → m < laneCount → has g m ≡ true → stageAt (s .working) m ≡ Idle
 
--- the group closes, or is dropped by a reset, within a number of work steps: after some of the calls its lanes are idle, until then they are all in progress in that group, and
--- of these calls at most so many are work steps on its lanes
+-- the group closes, or is dropped by a reset, within a number of work steps: after some of the calls its lanes are idle, until then they are all in
+-- progress in that group, and of these calls at most so many are work steps on its lanes
 pub record ClosesWithin (g most : ℕ) (s : State) (cs : List Called) : Type 0 where
   pub calls : ℕ
   pub among : calls ≤ length cs

@@ -64,7 +64,7 @@ pub fn finish(carried: Carried, out: &mut [u8]) -> Fed
         return refused(Answer::ShortBuffer, carried);
     }
     let c = pieces_carried::tidied(carried);
-    let t = pieces_carried::end(c, out);
+    let t = pieces_end::end(c, out);
     let carried = t.carried;
     Fed {
         answer: Answer::Done,

@@ -84,8 +84,8 @@ pub fn take(image: &mut [u8], c: Carried, b: u8, out: &mut [u8], at: usize) -> T
 {
     let phase = c.phase;
     match phase {
-        Phase::InHeader => pieces_front::take_header(c, b, out, at),
-        Phase::InImage { come, records } => pieces_front::take_image(
+        Phase::InHeader => pieces_header::take_header(c, b, out, at),
+        Phase::InImage { come, records } => pieces_image::take_image(
             image,
             c,
             come,

@@ -1,3 +1,3 @@
--- The laws of what is held, and of the end.
+-- Laws of what is held, and of nothing printed.
 pub mod Holding
-pub mod Ending
+pub mod Printing

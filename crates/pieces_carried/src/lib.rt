@@ -1,10 +1,9 @@
-// What is carried from piece to piece of a night: before the first byte, with one byte more held, after a bad line, and the end.
+// What is carried from piece to piece of a night: before the first byte, with one byte more held, and after a bad line.
 ghost use mathlib.Core.Path.{_≡_};
 ghost use mathlib.Core.List.{[]};
 ghost use Prim.Native.Nat.{_+_, _≤_, _<_};
 ghost use lib.ListN.{length};
-ghost use Rattle.model.specs.Stream.{begun, refused, endedIn, ended};
-ghost use Rattle.model.specs.declared.stream.Phase.the-variants.{InRecords};
+ghost use Rattle.model.specs.Stream.{begun, refused};
 ghost use Rattle.pieces_carried.specs.Carrying.{heldRoom, heldCount, carriedBy, padded, kept, IsTidy, HoldsOneMore, LeavesOfAny};
 ghost use Rattle.night_text.specs.Buffer.{longestLine};
 use model::answer::Answer;
@@ -113,37 +112,4 @@ pub fn hold(c: Carried, b: u8, at: usize) -> Taken
         working,
     };
     Taken { at, carried }
-}
-
-// The end after the last record, or too early.
-fn end_records(c: Carried, next: u32, records: u32, out: &mut [u8]) -> Taken
-    requires { ⌜ IsTidy c × (longestLine ≤ length (now out)) ⌝ }
-    ensures { λ r. ⌜ LeavesOfAny (λ x. endedIn (InRecords next records) (carriedBy c x)) 0 (now (out .entry)) (now (out .exit)) r ⌝ }
-{
-    if (records <= next) & (c.count == 0) {
-        let working = c.working;
-        let over = entering(Phase::Over, c.edition, working);
-        return Taken {
-            at: 0,
-            carried: over,
-        };
-    }
-    refuse(Answer::Malformed, c, out, 0)
-}
-
-// The end.
-pub fn end(c: Carried, out: &mut [u8]) -> Taken
-    requires { ⌜ IsTidy c × (longestLine ≤ length (now out)) ⌝ }
-    ensures { λ r. ⌜ LeavesOfAny (λ x. ended (carriedBy c x)) 0 (now (out .entry)) (now (out .exit)) r ⌝ }
-{
-    let phase = c.phase;
-    match phase {
-        Phase::InHeader => refuse(Answer::Malformed, c, out, 0),
-        Phase::InImage {
-            come: _,
-            records: _,
-        } => refuse(Answer::Malformed, c, out, 0),
-        Phase::InRecords { next, records } => end_records(c, next, records, out),
-        Phase::Over => Taken { at: 0, carried: c },
-    }
 }

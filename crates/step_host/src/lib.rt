@@ -67,7 +67,7 @@ fn show_flags(image: &mut [u8], w: Working, address: u8, n: usize)
 {
     if (address <= LAST_LASTING) & ((map::FIRST_LASTING as usize) < (address as usize) + n) {
         let i = pages::index_of(image, address);
-        flags_lasting::show_again(image, w, i, n);
+        flags_shown::show_again(image, w, i, n);
     }
 }
 

@@ -103,7 +103,7 @@ pub fn sample(image: &mut [u8], w: Working, lane: u8, power: u16) -> Returned
     if LaneRecord::COUNT <= lane {
         return contracts::reply(Answer::NoSuchTarget, w);
     }
-    let working = flags_lasting::sample(image, w, lane, power);
+    let working = flags_sampled::sample(image, w, lane, power);
     flags_interrupt::settle(image);
     contracts::reply(Answer::Done, working)
 }

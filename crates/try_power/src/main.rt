@@ -164,6 +164,8 @@ fn line() {
 fn line_at_start() {
     let mut image = [0u8; 896];
     say_line(b"line after start", started(&mut image));
+    image[2] = 0x80;
+    say_line(b"after a start that is refused", started(&mut image));
 }
 
 fn is_idle(w: Working) -> u8 {

@@ -27,7 +27,7 @@ fn put_pending(image: &mut [u8], trigger: Trigger, group: u8)
     ensures { λ _. ⌜ now (image .exit) ≡ pendingAfter false trigger group (now (image .entry)) ⌝ }
 {
     match trigger {
-        Trigger::DpInit => bits_lanes::set_bits(image, map::PENDING, group),
+        Trigger::DpInit => bits_together::set_bits(image, map::PENDING, group),
         Trigger::Immediate => {}
     }
 }

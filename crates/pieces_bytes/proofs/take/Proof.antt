@@ -3,7 +3,7 @@ use mathlib.Core.Path.{refl}
 use Rattle.model.specs.Stream.{tookIn}
 use Rattle.model.specs.declared.stream.Phase.the-variants.{InHeader, Over}
 use Rattle.pieces_carried.specs.Carrying.{carriedBy, kept}
-use Rattle.pieces_carried.proofs.Ending.{puts-none}
+use Rattle.pieces_carried.proofs.Printing.{puts-none}
 use Rattle.pieces_bytes.proofs.Taking.{took-at}
 use borrow.Author.Needs.{needs}
 use Rattle.pieces_bytes.proofs.take.Statement.{statement}

@@ -7,7 +7,7 @@ use lib.ListN.{length, length-append, length-set}
 use Rattle.model.specs.File.{recordLength}
 use Rattle.pieces_carried.specs.Carrying.{heldRoom, heldIn, carriedBy}
 use Rattle.pieces_carried.proofs.Holding.{held-short, tidy-count, tidy-length, tidy-set, took-padded}
-use Rattle.pieces_carried.proofs.Ending.{puts-none}
+use Rattle.pieces_carried.proofs.Printing.{puts-none}
 use Rattle.pieces_bytes.proofs.Taking.{record-none, record-waits}
 use borrow.Author.Needs.{needs}
 use Rattle.pieces_bytes.proofs.take_record.Statement.{statement}

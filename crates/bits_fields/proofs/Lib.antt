@@ -1,0 +1,2 @@
+-- Where the field of a lane lies.
+pub mod Fits

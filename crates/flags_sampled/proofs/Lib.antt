@@ -1,0 +1,2 @@
+-- What is on after a sample.
+pub mod Sampled

@@ -1,0 +1,2 @@
+-- What shows again.
+pub mod Shown

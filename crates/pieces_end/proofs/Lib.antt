@@ -1,0 +1,2 @@
+-- Laws of the end.
+pub mod Ending

@@ -1,0 +1,2 @@
+-- What a byte of the header brings.
+pub mod Headers

@@ -1,0 +1,2 @@
+-- What a byte of the image brings.
+pub mod Images
