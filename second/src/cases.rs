@@ -102,9 +102,11 @@ impl Bench {
         self.image[CONFIG_STATUS + lane / 2] >> (4 * (lane % 2)) & 15
     }
 
-    /// Stages the bytes from a lane on, triggers and works until closed.
+    /// Stages the bytes from a lane on, in the set of a trigger, writes the
+    /// trigger and works until closed.
     fn apply(&mut self, lane: u8, staged: &[u8], trigger: u8, selected: u8) -> u8 {
-        self.write(145 + lane, staged);
+        let dp_configs = if trigger < 178 { 145 } else { 180 };
+        self.write(dp_configs + lane, staged);
         self.write(trigger, &[selected]);
         while self.working.lanes[lane as usize].in_progress() {
             assert_eq!(self.work(lane).answer, 0);
@@ -670,6 +672,8 @@ fn soundness_looks_at_odd_records_too() {
     assert_eq!(broken(&|_, apply| apply.held.data_path_id = 8), Some('b'));
     assert_eq!(broken(&|_, apply| apply.verdict = Verdict::Pass { next: 9 }), Some('b'));
     assert_eq!(broken(&|_, apply| apply.group = 0x0E), Some('b'));
+    assert_eq!(broken(&|_, apply| apply.trigger = Trigger::ApplyImmediate), Some('b'));
+    assert_eq!(broken(&|_, apply| apply.set = StagedSet::One), Some('b'));
     assert_eq!(broken(&|image, _| image[ACTIVE_DP_CONFIG + 7] = 0x18), Some('c'));
     assert_eq!(broken(&|image, _| image[DP_INIT_PENDING] = 0x80), Some('d'));
     assert_eq!(broken(&|image, _| image[DP_INIT_PENDING] = 0x0F), None);
@@ -677,9 +681,9 @@ fn soundness_looks_at_odd_records_too() {
     assert_eq!(broken(&|_, apply| apply.held.app_sel = 2), Some('e'));
     // Flags that no record calls on say nothing.
     assert_eq!(broken(&|image, _| image[LANE_FLAGS..LANE_FLAGS_END].fill(0xFF)), None);
-    // The bytes of the triggers, of the module's state and of its controls are
-    // nobody's business here.
-    assert_eq!(broken(&|image, _| image[APPLY_DP_INIT] = 0xFF), None);
+    // The bytes of both staged sets, triggers among them, of the module's state
+    // and of its controls are nobody's business here.
+    assert_eq!(broken(&|image, _| image[P10 + 143..P10 + 213].fill(0xFF)), None);
     for byte in 0..=255 {
         assert_eq!(broken(&|image, _| image[MODULE_STATE] = byte), None);
         assert_eq!(broken(&|image, _| image[MODULE_CONTROLS] = byte), None);
@@ -721,11 +725,17 @@ fn what_only_lent_states_show() {
 #[test]
 fn trigger_bytes_read_as_zero_in_any_image() {
     let mut bench = Bench::new();
-    bench.image[APPLY_DP_INIT] = 0xAA;
-    bench.image[APPLY_IMMEDIATE] = 0xBB;
-    bench.image[STAGED_DP_CONFIG] = 0xCC;
-    assert_eq!(bench.read(142, 4), Ok(vec![0, 0, 0, 0xCC]));
-    assert_eq!(bench.read(144, 2), Ok(vec![0, 0xCC]));
+    for trigger in [143, 178u8] {
+        bench.image[P10 + trigger as usize..][..3].copy_from_slice(&[0xAA, 0xBB, 0xCC]);
+        assert_eq!(bench.read(trigger - 1, 4), Ok(vec![0, 0, 0, 0xCC]));
+        assert_eq!(bench.read(trigger, 1), Ok(vec![0]));
+        assert_eq!(bench.read(trigger + 1, 2), Ok(vec![0, 0xCC]));
+    }
+    // The bytes of the triggers by direction are no triggers: they show.
+    bench.image[P10 + 211..P10 + 213].fill(0xDD);
+    let page = bench.shown(128, 128);
+    assert_eq!(page[15..18], [0, 0, 0xCC]);
+    assert_eq!((&page[50..53], &page[83..85]), (&[0, 0, 0xCC][..], &[0xDD, 0xDD][..]));
 }
 
 #[test]
@@ -1433,6 +1443,461 @@ fn what_a_refused_call_says_of_the_line() {
     assert_eq!([bench.working, working], [Working::AT_START; 2]);
 }
 
+// ---- the second staged set ----
+
+/// The triggers of a set and of the other one, ApplyDPInit and ApplyImmediate,
+/// for either set.
+const SETS_EXCHANGED: [([u8; 2], [u8; 2]); 2] =
+    [([143, 144], [178, 179]), ([178, 179], [143, 144])];
+
+impl Bench {
+    /// Work steps that are done, all on one lane.
+    fn works(&mut self, lane: u8, steps: usize) {
+        for _ in 0..steps {
+            assert_eq!(self.work(lane).answer, 0);
+        }
+    }
+
+    /// What page 11h shows; then page 10h is selected again.
+    fn on_11h(&mut self, address: u8, count: u8) -> Vec<u8> {
+        self.write(127, &[0x11]);
+        let bytes = self.shown(address, count);
+        self.write(127, &[0x10]);
+        bytes
+    }
+
+    /// The sets that the lanes in progress were held from, and their triggers.
+    fn held_from(&self) -> [Option<(StagedSet, Trigger)>; LANES] {
+        self.working.lanes.map(|record| match record.stage {
+            Stage::Idle => None,
+            Stage::InProgress(apply) => Some((apply.set, apply.trigger)),
+        })
+    }
+}
+
+#[test]
+fn set_1_is_staged_triggered_and_copied() {
+    let mut bench = Bench::new();
+    bench.write(180, &[0x10; 4]);
+    bench.write(178, &[0x0F]);
+    assert_eq!(bench.held_from()[..4], [Some((StagedSet::One, Trigger::ApplyDPInit)); 4]);
+    bench.works(0, 5);
+    assert_eq!(bench.shown(178, 4), [0x00, 0x00, 0x10, 0x10]);
+    assert_eq!(bench.on_11h(202, 4), [0x11, 0x11, 0x00, 0x00]);
+    assert_eq!(bench.on_11h(206, 5), [0x10, 0x10, 0x10, 0x10, 0x00]);
+    assert_eq!(bench.on_11h(235, 1), [0x0F]);
+    // By 179 nothing is pending; set 0 has nothing to do with it.
+    let mut bench = Bench::new();
+    assert_eq!(bench.apply(4, &[0x18; 4], 179, 0xF0), 1);
+    assert_eq!(bench.on_11h(206, 8), [0, 0, 0, 0, 0x18, 0x18, 0x18, 0x18]);
+    assert_eq!((bench.on_11h(235, 1), bench.shown(143, 31)), (vec![0], vec![0; 31]));
+}
+
+#[test]
+fn a_trigger_of_set_1_holds_what_was_staged_before_it() {
+    let mut bench = Bench::new();
+    bench.write(180, &[0x10; 4]);
+    bench.write(178, &[0x0F]);
+    bench.write(145, &[0x11; 4]);
+    let held = bench.working;
+    bench.write(143, &[0x0F]);
+    assert_eq!(bench.working, held, "ignored, in progress from set 1");
+    bench.write(180, &[0x20; 4]);
+    bench.works(0, 5);
+    assert_eq!((bench.on_11h(202, 2), bench.on_11h(206, 4)), (vec![0x11; 2], vec![0x10; 4]));
+    // In its own access, too, what comes behind it is too late.
+    let mut bench = Bench::new();
+    bench.write(180, &[0x10; 4]);
+    bench.write(178, &[0x0F, 0x00, 0x20, 0x20, 0x20, 0x20, 0x00, 0x00]);
+    assert_eq!(bench.shown(178, 8), [0x00, 0x00, 0x20, 0x20, 0x20, 0x20, 0x00, 0x00]);
+    bench.works(0, 5);
+    assert_eq!(bench.on_11h(206, 4), [0x10; 4]);
+}
+
+#[test]
+fn a_lane_in_progress_from_one_set_blocks_the_other() {
+    for (own, other) in SETS_EXCHANGED {
+        for (first, second) in [(own[0], other[0]), (own[0], other[1]), (own[1], other[0])] {
+            let mut bench = Bench::new();
+            bench.write(145, &[0x10; 4]);
+            bench.write(180, &[0x10; 4]);
+            bench.write(first, &[0x03]);
+            bench.write(second, &[0x0F]);
+            assert_eq!(bench.on_11h(202, 2), [0xCC, 0x00]);
+            assert_eq!([bench.work(3).answer, bench.work(1).answer], [6, 0]);
+            assert_eq!(bench.on_11h(202, 2), [0x77, 0x00]);
+            // Now nothing is in the way.
+            bench.write(second, &[0x0F]);
+            assert_eq!(bench.on_11h(202, 2), [0xCC, 0xCC]);
+        }
+    }
+    // A lane in progress that is not selected changes nothing.
+    let mut bench = Bench::new();
+    bench.write(145, &[0x10; 4]);
+    bench.write(180, &[0x10; 4]);
+    bench.write(143, &[0x03]);
+    bench.write(178, &[0x0C]);
+    assert_eq!(bench.on_11h(202, 2), [0xCC, 0xCC]);
+    let [zero, one] = StagedSet::BOTH.map(|set| Some((set, Trigger::ApplyDPInit)));
+    assert_eq!(bench.held_from(), [zero, zero, one, one, None, None, None, None]);
+    assert_eq!([bench.work(3).answer, bench.work(0).answer], [0, 0]);
+    assert_eq!(bench.on_11h(202, 2), [0x77, 0x77]);
+}
+
+#[test]
+fn a_group_of_the_other_set_is_ignored_beside_one_that_is_marked() {
+    for (own, other) in SETS_EXCHANGED {
+        let mut bench = Bench::new();
+        bench.write(145, &[0x10, 0x10, 0x10, 0x10, 0x18, 0x18, 0x18, 0x18]);
+        bench.write(180, &[0x10, 0x10, 0x10, 0x10, 0x18, 0x18, 0x18, 0x18]);
+        bench.write(own[0], &[0x0F]);
+        bench.write(other[1], &[0xFF]);
+        let held = bench.held_from();
+        assert_ne!(held[0], held[4]);
+        bench.works(0, 5);
+        assert_eq!(bench.on_11h(202, 4), [0x11, 0x11, 0xCC, 0xCC]);
+        bench.works(7, 5);
+        assert_eq!((bench.on_11h(202, 4), bench.on_11h(235, 1)), (vec![0x11; 4], vec![0x0F]));
+    }
+}
+
+#[test]
+fn stepped_config_stops_the_immediate_trigger_of_either_set() {
+    for (lower_2, first) in [(0x40, 6), (0x00, 0), (0x3F, 0), (0x7F, 6)] {
+        for (triggers, _) in SETS_EXCHANGED {
+            let mut image = usual_image();
+            image[2] = lower_2;
+            let mut bench = Bench::of(image);
+            bench.write(triggers[0] + 2, &[0x10; 4]);
+            bench.write(triggers[1], &[0x0F]);
+            assert_eq!(bench.work(0).answer, first);
+            bench.write(triggers[0], &[0x0F]);
+            assert_eq!(bench.work(0).answer, 0);
+        }
+    }
+}
+
+#[test]
+fn two_triggers_of_set_1_in_one_access() {
+    let mut bench = Bench::new();
+    bench.write(180, &[0x10; 4]);
+    bench.write(178, &[0x0F, 0x0F]);
+    bench.works(0, 5);
+    assert_eq!((bench.on_11h(235, 1), bench.work(0).answer), (vec![0x0F], 6));
+    // The second one marks what the first has left.
+    let mut bench = Bench::new();
+    bench.write(180, &[0x10, 0x10, 0x10, 0x10, 0x18, 0x18, 0x18, 0x18]);
+    bench.write(178, &[0x0F, 0xFF]);
+    let held = bench.held_from();
+    assert_eq!(held[3], Some((StagedSet::One, Trigger::ApplyDPInit)));
+    assert_eq!(held[4], Some((StagedSet::One, Trigger::ApplyImmediate)));
+    // A mask of 0 is nothing.
+    let mut bench = Bench::new();
+    bench.write(180, &[0x10; 4]);
+    let before = (bench.image, bench.working);
+    assert_eq!(bench.write(178, &[0, 0]), 0);
+    assert!(before == (bench.image, bench.working));
+}
+
+#[test]
+fn accesses_at_and_beside_the_triggers_of_set_1() {
+    let mut bench = Bench::new();
+    bench.write(180, &[0x10; 4]);
+    bench.write(173, &[0x0F; 8]);
+    assert_eq!(bench.shown(173, 8), [0x0F, 0, 0, 0, 0, 0, 0, 0x0F]);
+    assert_eq!(bench.on_11h(202, 4), [0xCC, 0xCC, 0x00, 0x00]);
+    // Wherever an access begins: with which trigger it marks lanes 0 to 3.
+    for first in 141..=214u8 {
+        let mut bench = Bench::new();
+        bench.write(145, &[0x10; 4]);
+        bench.write(180, &[0x10; 4]);
+        assert_eq!(bench.write(first, &[0x0F; 8]), 0);
+        let expected = match first {
+            141..=143 => Some((StagedSet::Zero, Trigger::ApplyDPInit)),
+            144 => Some((StagedSet::Zero, Trigger::ApplyImmediate)),
+            171..=178 => Some((StagedSet::One, Trigger::ApplyDPInit)),
+            179 => Some((StagedSet::One, Trigger::ApplyImmediate)),
+            _ => None,
+        };
+        assert_eq!(bench.held_from()[..4], [expected; 4], "from {}", first);
+        assert_eq!(bench.held_from()[4..], [None; 4]);
+    }
+}
+
+#[test]
+fn every_byte_of_page_10h_keeps_a_write_or_not() {
+    for address in 128..=255u8 {
+        let mut bench = Bench::new();
+        bench.write(145, &[0x10; 8]);
+        assert_eq!(bench.write(address, &[0xA5]), 0);
+        let kept = match address {
+            128..=132 | 137..=139 | 145..=153 | 156..=173 => true,
+            180..=188 | 191..=208 | 213..=232 => true,
+            _ => false,
+        };
+        assert_eq!(bench.shown(address, 1) == [0xA5], kept, "{}", address);
+        let triggers = [143, 144, 178, 179].contains(&address);
+        assert_eq!(bench.working != Working::AT_START, triggers, "{}", address);
+    }
+    let mut bench = Bench::new();
+    bench.write(188, &[0xFF; 4]);
+    assert_eq!(bench.shown(188, 4), [0xFF, 0x00, 0x00, 0xFF]);
+    bench.write(206, &[1, 2, 3, 4, 5, 6, 7, 8]);
+    assert_eq!(bench.shown(206, 8), [1, 2, 3, 0, 0, 0, 0, 8]);
+    assert_eq!(bench.working, Working::AT_START);
+}
+
+/// The usual image with every setting within its limit.
+fn unlimited_image() -> [u8; IMAGE_LEN] {
+    let mut image = usual_image();
+    image[P01 + 153..P01 + 155].fill(0xFF);
+    image
+}
+
+#[test]
+fn every_setting_of_set_1_has_its_place() {
+    let mut bench = Bench::of(unlimited_image());
+    bench.write(180, &[0x11; 4]);
+    bench.write(188, &[0x05]);
+    bench.write(191, &[0x21, 0x43]);
+    bench.write(195, &[0x0A, 0x03]);
+    bench.write(197, &[0x65, 0x87]);
+    bench.write(201, &[0xA9, 0xCB]);
+    bench.write(205, &[0x10, 0x32]);
+    bench.write(178, &[0x0F]);
+    bench.works(0, 5);
+    let active = [
+        0x11, 0x11, 0, 0, 0x11, 0x11, 0x11, 0x11, 0, 0, 0, 0, 0x05, 0, 0, 0x21, 0x43, 0, 0,
+        0x0A, 0x03, 0x65, 0x87, 0, 0, 0xA9, 0xCB, 0, 0, 0x10, 0x32, 0, 0, 0x0F,
+    ];
+    assert_eq!(bench.on_11h(202, 34), active);
+}
+
+#[test]
+fn each_set_keeps_and_gives_its_own_settings() {
+    // All eight lanes with ExplicitControl, every nibble another one.
+    let settings = |seed: u8| -> Vec<u8> {
+        let mut bytes: Vec<u8> = (0..29).map(|at| seed.wrapping_mul(at + 1)).collect();
+        bytes[..8].copy_from_slice(&[0x11, 0x11, 0x11, 0x11, 0x19, 0x19, 0x19, 0x19]);
+        bytes[9..11].fill(0);
+        bytes[25..].iter_mut().for_each(|byte| *byte &= 0x33);
+        bytes
+    };
+    let staged = [settings(0x35), settings(0xB7)];
+    let mut bench = Bench::of(unlimited_image());
+    for (first, bytes) in [145, 180].into_iter().zip(&staged) {
+        for (at, access) in bytes.chunks(8).enumerate() {
+            bench.write(first + 8 * at as u8, access);
+        }
+        assert_eq!(bench.shown(first, 29), *bytes);
+    }
+    for trigger in [178, 143, 179, 144] {
+        bench.write(trigger, &[0xFF]);
+        bench.works(0, 5);
+        bench.works(4, 5);
+        assert_eq!(bench.on_11h(206, 29), staged[(trigger >= 178) as usize], "by {}", trigger);
+    }
+    // Without ExplicitControl the module has its own; lanes 4 to 7 are left alone.
+    assert_eq!(bench.apply(0, &[0x10; 4], 178, 0x0F), 1);
+    let (active, before) = (bench.on_11h(206, 29), &staged[0]);
+    assert_eq!((&active[..4], &active[4..8]), (&[0x10; 4][..], &before[4..8]));
+    assert_eq!(active[8], before[8] | 0x0F);
+    assert_eq!((&active[11..13], &active[13..15]), (&[0; 2][..], &before[13..15]));
+}
+
+#[test]
+fn an_untouched_set_1_releases() {
+    let mut bench = Bench::new();
+    assert_eq!(bench.apply(0, &[0x10; 4], 143, 0x0F), 1);
+    bench.write(178, &[0x07]);
+    bench.works(0, 1);
+    assert_eq!(bench.on_11h(202, 2), [0x77, 0x17], "a lane of the path is missing");
+    bench.write(178, &[0x0F]);
+    bench.works(3, 5);
+    assert_eq!(bench.on_11h(202, 34), then_zeros(&[0x11, 0x11], 34));
+    // Outside DPDeactivated it is 6; lanes on no path are released each alone.
+    let mut bench = Bench::lit();
+    bench.write(179, &[0xFF]);
+    bench.works(0, 1);
+    assert_eq!(bench.on_11h(202, 4), [0x66, 0x66, 0xCC, 0xCC]);
+    for lane in 4..8 {
+        bench.works(lane, 2);
+        assert_eq!(bench.work(lane).answer, 6);
+    }
+    assert_eq!(bench.on_11h(202, 4), [0x66, 0x66, 0x11, 0x11]);
+}
+
+#[test]
+fn start_and_reset_leave_set_1_at_0() {
+    let mut image = usual_image();
+    image[P10 + 174..P10 + 213].fill(0x5A);
+    let mut bench = Bench::of(image);
+    assert_eq!(bench.shown(174, 39), [0; 39]);
+    bench.write(180, &[0x10; 8]);
+    bench.write(191, &[0xFF; 8]);
+    bench.write(178, &[0x0F]);
+    bench.works(0, 2);
+    assert_eq!(bench.write(26, &[0x08]), 0);
+    assert_eq!(bench.working, Working::AT_START);
+    bench.write(127, &[0x10]);
+    assert_eq!((bench.shown(174, 39), bench.work(0).answer), (vec![0; 39], 6));
+    assert_eq!(bench.apply(0, &[0x10; 4], 178, 0x0F), 1);
+}
+
+#[test]
+fn groups_of_both_sets_worked_on_in_turns() {
+    let mut bench = Bench::new();
+    bench.write(145, &[0x10; 4]);
+    bench.write(184, &[0x18; 4]);
+    bench.write(143, &[0x0F]);
+    bench.write(178, &[0xF0]);
+    for step in 0..5 {
+        if step == 2 {
+            bench.write(145, &[0; 4]);
+            bench.write(184, &[0; 4]);
+        }
+        bench.works(step % 4, 1);
+        bench.works(7 - step % 4, 1);
+    }
+    let active = [0x11, 0x11, 0x11, 0x11, 0x10, 0x10, 0x10, 0x10, 0x18, 0x18, 0x18, 0x18];
+    assert_eq!((bench.on_11h(202, 12), bench.on_11h(235, 1)), (active.to_vec(), vec![0xFF]));
+}
+
+#[test]
+fn one_set_goes_on_from_what_the_other_has_made() {
+    for (own, other) in SETS_EXCHANGED {
+        let mut bench = Bench::of(unlimited_image()).brought_up();
+        assert_eq!(bench.apply(0, &[0x10; 4], own[0], 0x0F), 1);
+        assert_eq!(states_after(&mut bench, 4), [2, 7, 5, 4]);
+        // New settings at once, with lanes to commission.
+        bench.write(other[0] + 2, &[0x11; 4]);
+        bench.write(other[1], &[0x0F]);
+        let masks: Vec<u8> = (0..5).map(|_| bench.work(2).commission).collect();
+        assert_eq!(masks, [0, 0, 0, 0, 0x0F]);
+        assert_eq!((bench.on_11h(206, 4), bench.on_11h(214, 1)), (vec![0x11; 4], vec![0]));
+        // And round again by the first.
+        assert_eq!(bench.apply(0, &[0x10; 4], own[0], 0x0F), 1);
+        assert_eq!((bench.on_11h(206, 4), bench.on_11h(214, 1)), (vec![0x10; 4], vec![0x0F]));
+        assert_eq!(states_after(&mut bench, 4), [6, 7, 3, 1]);
+        assert_eq!(bench.apply(0, &[0x00; 4], other[1], 0x0F), 1);
+        assert_eq!(bench.on_11h(206, 30), [0; 30]);
+    }
+}
+
+/// Application 1 as usual, Application 2 of one lane anywhere, a limit for each
+/// setting: input EQ 3, amplitude codes 0 and 1, pre-cursor 2, post-cursor 5.
+fn two_applications_image() -> [u8; IMAGE_LEN] {
+    let mut image = usual_image();
+    image[90..95].copy_from_slice(&[0x00, 0x00, 0x11, 0xFF, 0xFF]);
+    image[P01 + 153..P01 + 155].copy_from_slice(&[0x33, 0x52]);
+    image
+}
+
+#[test]
+fn a_verdict_looks_at_its_own_set() {
+    for (own, other) in SETS_EXCHANGED {
+        // What the other set has staged would pass, or not, everywhere else.
+        for beside in [0x10, 0x30, 0x01, 0xF5] {
+            let fresh = || {
+                let mut bench = Bench::of(two_applications_image()).brought_up();
+                bench.write(other[0] + 2, &[beside; 8]);
+                bench
+            };
+            assert_eq!(fresh().apply(0, &[0x10; 4], own[0], 0x0F), 1);
+            assert_eq!(fresh().apply(0, &[0x10; 4], own[0], 0x07), 7);
+            assert_eq!(fresh().apply(2, &[0x14; 4], own[0], 0x3C), 4);
+            assert_eq!(fresh().apply(0, &[0x10, 0x20, 0x10, 0x10], own[1], 0x0F), 4);
+            assert_eq!(fresh().apply(0, &[0x30; 4], own[1], 0x0F), 3);
+            assert_eq!(fresh().apply(5, &[0x2A], own[1], 0x20), 1);
+            let mut bench = fresh();
+            assert_eq!(bench.apply(0, &[0x10; 4], own[0], 0x0F), 1);
+            assert_eq!(bench.apply(3, &[0x26], own[0], 0x08), 6);
+            assert_eq!(bench.apply(1, &[0x00; 3], own[0], 0x0E), 7);
+            assert_eq!(states_after(&mut bench, 1), [2]);
+            assert_eq!(bench.apply(0, &[0x10; 4], own[0], 0x0F), 2);
+            assert_eq!(bench.apply(0, &[0x00; 4], own[1], 0x0F), 6);
+            let mut bench = fresh();
+            assert_eq!(bench.apply(6, &[0x2C], own[1], 0x40), 1);
+            assert_eq!([bench.hardware(6), bench.hardware(6)], [0, 0]);
+            assert_eq!(bench.apply(6, &[0x1C], own[1], 0x40), 4);
+            assert_eq!(bench.apply(6, &[0x2D], own[1], 0x40), 1);
+        }
+    }
+}
+
+#[test]
+fn the_limits_are_asked_of_the_trigger_s_own_set() {
+    // Settings of lanes 0 and 1 by their offset from the first DPConfig byte:
+    // at the limit, and above it.
+    let fields =
+        [(11, 0x30, 0x40), (17, 0x20, 0x30), (21, 0x50, 0x60), (25, 0x10, 0x20), (25, 0x00, 0x40)];
+    for (own, other) in SETS_EXCHANGED {
+        for (at, allowed, above) in fields {
+            let closed_with = |staged: u8, beside: u8, control: u8| {
+                let mut bench = Bench::of(two_applications_image());
+                bench.write(own[0] + 2 + at, &[staged]);
+                bench.write(other[0] + 2 + at, &[beside]);
+                bench.write(other[0] + 2, &[0x21, 0x23]);
+                bench.apply(1, &[0x22 | control], own[0], 0x02)
+            };
+            assert_eq!([closed_with(allowed, above, 1), closed_with(above, allowed, 1)], [1, 5]);
+            assert_eq!([closed_with(above, above, 0), closed_with(above, above, 1)], [1, 5]);
+        }
+    }
+}
+
+#[test]
+fn staged_set_1_supported_is_not_asked() {
+    for (first, second) in [(0x20, 0x00), (0xFF, 0xDF)] {
+        let closed = |byte: u8| {
+            let mut image = usual_image();
+            image[P01 + 162] = byte;
+            let mut bench = Bench::of(image);
+            bench.apply(0, &[0x10; 4], 178, 0x0F);
+            bench.image[P01 + 162] = 0;
+            (bench.image, bench.working)
+        };
+        assert!(closed(first) == closed(second));
+    }
+}
+
+#[test]
+fn a_lent_state_of_set_1_is_as_sound_as_one_of_set_0() {
+    let mut bench = Bench::new();
+    bench.write(145, &[0x10, 0x10, 0x10, 0x10, 0x28, 0x28, 0x00, 0x00]);
+    bench.write(143, &[0xFF]);
+    bench.works(0, 2);
+    // The same with these lanes' records saying set 1.
+    let with_set_1_on = |lanes: u8| {
+        let mut working = bench.working;
+        for lane in LaneSet(lanes) {
+            if let Stage::InProgress(apply) = &mut working.lanes[lane as usize].stage {
+                apply.set = StagedSet::One;
+            }
+        }
+        (bench.image, working)
+    };
+    // Groups are lanes 0 to 3, 4 and 5, 6, 7. No work step looks at the set.
+    for lanes in [0x00, 0xFF, 0x0F, 0x30, 0x40, 0xB0] {
+        let (mut image, mut working) = with_set_1_on(lanes);
+        assert_eq!(soundness::unsound_at(&image, &working.lanes), None);
+        for lane in [0, 1, 3, 4, 6, 7, 6, 7] {
+            let step = desk(&mut image, &mut working, &Event::Work { lane }, &mut []);
+            assert_eq!(step.answer, 0);
+        }
+        assert_eq!(working, Working::AT_START);
+        assert_eq!(image[CONFIG_STATUS..CONFIG_STATUS + 4], [0x11, 0x11, 0x33, 0x11]);
+    }
+    // A group of two sets is not sound.
+    for (lanes, found_at) in [(0x01, 0), (0xF7, 0), (0x10, 4), (0xEF, 4)] {
+        let (mut image, mut working) = with_set_1_on(lanes);
+        assert_eq!(soundness::unsound_at(&image, &working.lanes), Some(('b', found_at)));
+        let step = desk(&mut image, &mut working, &Event::Work { lane: 6 }, &mut []);
+        assert_eq!(step.answer, 3);
+        assert!((image, working) == with_set_1_on(lanes), "a refusal changed something");
+    }
+}
+
 // ---- the editions of the night file ----
 
 /// An edition 1 file in a later edition, its page 9Fh filled with what start
@@ -1478,6 +1943,20 @@ fn every_edition_prints_the_same() {
     for file in in_every_edition(&example()) {
         let records = [[1, 127, 1, 0x9F], [1, 133, 1, 0xFF], [2, 128, 8, 0]];
         let text = "0 0\n1 0\n2 0 00 00 00 00 00 ff 00 00\n";
+        assert_eq!(printed(&with_records(&file, &records)), text);
+    }
+}
+
+#[test]
+fn files_of_every_edition_run_with_both_sets() {
+    let mut records = vec![[1, 127, 1, 0x10]];
+    records.extend([180, 181, 182, 183].map(|address| [1, address, 1, 0x10]));
+    records.extend([[1, 178, 1, 0x0F], [1, 127, 1, 0x11], [2, 202, 2, 0]]);
+    records.extend([[3, 0, 0, 0]; 5]);
+    records.push([2, 202, 2, 0]);
+    let text = "0 0\n1 0\n2 0\n3 0\n4 0\n5 0\n6 0\n7 0 cc cc\n\
+                8 0\n9 0\n10 0\n11 0\n12 0\n13 0 11 11\n";
+    for file in in_every_edition(&example()) {
         assert_eq!(printed(&with_records(&file, &records)), text);
     }
 }

@@ -1,7 +1,7 @@
 //! What the module remembers beside the image, of its lanes and of the
 //! low-power line, and sets of lanes: shared by the core and the soundness test.
 
-use crate::registers::{LANES, LANE_FLAGS};
+use crate::registers::{StagedSet, LANES, LANE_FLAGS};
 
 /// Which trigger register started an Apply.
 #[derive(Clone, Copy, PartialEq, Eq, Debug)]
@@ -56,6 +56,8 @@ pub struct Apply {
     /// The group's lanes, bit l for lane l.
     pub group: u8,
     pub trigger: Trigger,
+    /// Where the held settings were staged.
+    pub set: StagedSet,
     pub held: Settings,
     pub verdict: Verdict,
 }

@@ -3,7 +3,7 @@
 //!
 //! From the ground up, each using only what stands before it:
 //!
-//! * `registers`: addresses and codes.
+//! * `registers`: addresses and codes, and the two staged sets.
 //! * `lanes`: the lane records with what is on, the low-power line, and sets of
 //!   lanes.
 //! * `applications`: the list of descriptors.

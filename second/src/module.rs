@@ -162,7 +162,10 @@ fn admit<'a>(image: &'a mut [u8], working: &'a mut Working) -> Result<Module<'a>
 
 /// Whether a byte of page 10h keeps what is written to it.
 const fn stored_on_10h(address: usize) -> bool {
-    matches!(address, 128..=132 | 137..=139 | 145..=153 | 156..=173 | 213..=232)
+    matches!(
+        address,
+        128..=132 | 137..=139 | 145..=153 | 156..=173 | 180..=188 | 191..=208 | 213..=232
+    )
 }
 
 /// Of the eight bytes from each offset on page 10h on, FFh in those that keep
@@ -184,6 +187,39 @@ const fn stored_from() -> [u64; 128] {
         offset += 1;
     }
     table
+}
+
+/// Bits that read as 0: triggers are never stored, nor is the reset, but a lent
+/// image may hold something in their places.
+const NEVER_SHOWN: [(usize, u8); 5] = [
+    (StagedSet::Zero.place(APPLY_DP_INIT), 0xFF),
+    (StagedSet::Zero.place(APPLY_IMMEDIATE), 0xFF),
+    (StagedSet::One.place(APPLY_DP_INIT), 0xFF),
+    (StagedSet::One.place(APPLY_IMMEDIATE), 0xFF),
+    (MODULE_CONTROLS, SOFTWARE_RESET),
+];
+
+/// Whether an access of page 10h covers a trigger of one of the sets.
+#[inline(always)]
+fn covers_trigger(address: u8, count: u8) -> bool {
+    let first = P10 + address as usize;
+    let end = first + count as usize;
+    StagedSet::BOTH
+        .iter()
+        .any(|set| first <= set.place(APPLY_IMMEDIATE) && end > set.place(APPLY_DP_INIT))
+}
+
+/// The trigger that a place of the image is, with the set that it applies.
+fn trigger_at(place: usize) -> Option<(StagedSet, Trigger)> {
+    for set in StagedSet::BOTH {
+        if place == set.place(APPLY_DP_INIT) {
+            return Some((set, Trigger::ApplyDPInit));
+        }
+        if place == set.place(APPLY_IMMEDIATE) {
+            return Some((set, Trigger::ApplyImmediate));
+        }
+    }
+    None
 }
 
 /// For a set of lanes, Fh in the nibble of each of them.
@@ -370,12 +406,10 @@ impl<'a> Module<'a> {
 
     #[inline(always)]
     fn write_on_10h(&mut self, address: u8, count: u8, data: u64) {
-        let offset = (address & 127) as usize;
-        let end = offset + count as usize;
-        if offset <= APPLY_IMMEDIATE - P10 - 128 && end > APPLY_DP_INIT - P10 - 128 {
+        if covers_trigger(address, count) {
             self.write_with_triggers(address, count, data);
         } else {
-            self.store_on_10h(offset, data, count);
+            self.store_on_10h((address & 127) as usize, data, count);
         }
     }
 
@@ -437,10 +471,9 @@ impl<'a> Module<'a> {
     fn write_with_triggers(&mut self, address: u8, count: u8, data: u64) {
         let bytes = data.to_le_bytes();
         for (place, &byte) in (P10 + address as usize..).zip(&bytes[..count as usize]) {
-            match place {
-                APPLY_DP_INIT => self.apply(Trigger::ApplyDPInit, byte),
-                APPLY_IMMEDIATE => self.apply(Trigger::ApplyImmediate, byte),
-                _ => self.store_on_10h(place - P10 - 128, byte as u64, 1),
+            match trigger_at(place) {
+                Some((set, trigger)) => self.apply(set, trigger, byte),
+                None => self.store_on_10h(place - P10 - 128, byte as u64, 1),
             }
         }
     }
@@ -494,11 +527,7 @@ impl<'a> Module<'a> {
         }
         let bytes = &mut buffer[..range.len()];
         bytes.copy_from_slice(&self.image[range.clone()]);
-        // Triggers are never stored, nor is the reset, but a lent image may
-        // hold something in their places.
-        for (place, bits) in
-            [(APPLY_DP_INIT, 0xFF), (APPLY_IMMEDIATE, 0xFF), (MODULE_CONTROLS, SOFTWARE_RESET)]
-        {
+        for (place, bits) in NEVER_SHOWN {
             if range.contains(&place) {
                 bytes[place - range.start] &= !bits;
             }
@@ -560,9 +589,9 @@ impl<'a> Module<'a> {
     /// The group of the lowest lane of `selected`, which is not empty: the
     /// selected lanes that are judged together with it.
     #[inline]
-    pub fn first_group(&self, selected: u8) -> u8 {
+    pub fn first_group(&self, set: StagedSet, selected: u8) -> u8 {
         let lane = selected.trailing_zeros() as u8;
-        let staged = self.word(STAGED_DP_CONFIG);
+        let staged = self.word(set.place(STAGED_DP_CONFIG));
         let own = (staged >> (8 * lane)) as u8;
         if app_sel(own) != 0 {
             selected & with_app_sel(staged) & with_data_path_id(staged, data_path_id(own))
@@ -572,9 +601,10 @@ impl<'a> Module<'a> {
         }
     }
 
-    /// Writing `selected` to a trigger: every group without a lane already
-    /// in progress is marked, its settings held and its verdict fixed.
-    fn apply(&mut self, trigger: Trigger, selected: u8) {
+    /// Writing `selected` to a trigger of a set: every group without a lane
+    /// already in progress, from whichever set, is marked, its settings held
+    /// and its verdict fixed.
+    fn apply(&mut self, set: StagedSet, trigger: Trigger, selected: u8) {
         if trigger == Trigger::ApplyImmediate
             && self.image[CHARACTERISTICS] & STEPPED_CONFIG_ONLY != 0
         {
@@ -582,10 +612,10 @@ impl<'a> Module<'a> {
         }
         let mut left = selected;
         while left != 0 {
-            let group = self.first_group(left);
+            let group = self.first_group(set, left);
             left &= !group;
             if !self.any_in_progress(group) {
-                self.mark(trigger, group);
+                self.mark(set, trigger, group);
             }
         }
     }
@@ -601,30 +631,30 @@ impl<'a> Module<'a> {
         others.wrapping_sub(ONES) & !others & (8 * ONES) != 0
     }
 
-    fn mark(&mut self, trigger: Trigger, group: u8) {
-        let verdict = self.verdict(trigger, group);
+    fn mark(&mut self, set: StagedSet, trigger: Trigger, group: u8) {
+        let verdict = self.verdict(set, trigger, group);
         self.set_nibbles(CONFIG_STATUS, group, config_status::IN_PROGRESS);
         for lane in LaneSet(group) {
-            let held = self.staged(lane);
+            let held = self.staged(set, lane);
             self.working.lanes[lane as usize & 7].stage =
-                Stage::InProgress(Apply { group, trigger, held, verdict });
+                Stage::InProgress(Apply { group, trigger, set, held, verdict });
         }
     }
 
     #[inline]
-    fn staged(&self, lane: u8) -> Settings {
-        let dp_config = self.image[STAGED_DP_CONFIG + (lane & 7) as usize];
+    fn staged(&self, set: StagedSet, lane: u8) -> Settings {
+        let dp_config = self.image[set.place(STAGED_DP_CONFIG) + (lane & 7) as usize];
         Settings {
             app_sel: app_sel(dp_config),
             data_path_id: data_path_id(dp_config),
             explicit_control: explicit_control(dp_config),
-            adaptive_eq: self.bit(STAGED_ADAPTIVE_EQ, lane),
-            cdr_tx: self.bit(STAGED_CDR_TX, lane),
-            cdr_rx: self.bit(STAGED_CDR_RX, lane),
-            input_eq: self.nibble(STAGED_INPUT_EQ, lane),
-            pre_cursor: self.nibble(STAGED_PRE_CURSOR, lane),
-            post_cursor: self.nibble(STAGED_POST_CURSOR, lane),
-            amplitude: self.nibble(STAGED_AMPLITUDE, lane),
+            adaptive_eq: self.bit(set.place(STAGED_ADAPTIVE_EQ), lane),
+            cdr_tx: self.bit(set.place(STAGED_CDR_TX), lane),
+            cdr_rx: self.bit(set.place(STAGED_CDR_RX), lane),
+            input_eq: self.nibble(set.place(STAGED_INPUT_EQ), lane),
+            pre_cursor: self.nibble(set.place(STAGED_PRE_CURSOR), lane),
+            post_cursor: self.nibble(set.place(STAGED_POST_CURSOR), lane),
+            amplitude: self.nibble(set.place(STAGED_AMPLITUDE), lane),
         }
     }
 
@@ -635,14 +665,13 @@ impl<'a> Module<'a> {
     }
 
     /// The verdict on a group that is about to be marked.
-    fn verdict(&self, trigger: Trigger, group: u8) -> Verdict {
+    fn verdict(&self, set: StagedSet, trigger: Trigger, group: u8) -> Verdict {
         let first = group.trailing_zeros() as u8;
-        let staged = self.word(STAGED_DP_CONFIG);
-        let own = (staged >> (8 * first)) as u8;
+        let own = self.image[set.place(STAGED_DP_CONFIG) + (first & 7) as usize];
         let judged = if app_sel(own) == 0 {
             self.judge_release(group, first)
         } else {
-            self.judge_use(trigger, group, own, staged)
+            self.judge_use(set, trigger, group, own)
         };
         match judged {
             Ok(()) => Verdict::Pass { next: first },
@@ -663,8 +692,10 @@ impl<'a> Module<'a> {
         Ok(())
     }
 
-    fn judge_use(&self, trigger: Trigger, group: u8, own: u8, staged: u64) -> Result<(), u8> {
+    /// The first lane's DPConfig byte is `own`.
+    fn judge_use(&self, set: StagedSet, trigger: Trigger, group: u8, own: u8) -> Result<(), u8> {
         // The group shares a DataPathID; its AppSels may differ.
+        let staged = self.word(set.place(STAGED_DP_CONFIG));
         let others = staged ^ everywhere(own);
         if nonzero_bytes(others & everywhere(0xF0)) & group != 0 {
             return Err(config_status::INVALID_DATA_PATH);
@@ -689,7 +720,7 @@ impl<'a> Module<'a> {
             return Err(config_status::LANES_IN_USE);
         }
         let explicit = nonzero_bytes(staged & everywhere(0x01)) & group;
-        if !LaneSet(explicit).all(|lane| self.settings_allowed(lane)) {
+        if !LaneSet(explicit).all(|lane| self.settings_allowed(set, lane)) {
             return Err(config_status::INVALID_SI);
         }
         // From here the group is either unused or exactly one active path,
@@ -712,13 +743,13 @@ impl<'a> Module<'a> {
     /// Whether the staged signal integrity settings of a lane, which only
     /// matter with ExplicitControl, keep to the advertised limits.
     #[inline]
-    fn settings_allowed(&self, lane: u8) -> bool {
+    fn settings_allowed(&self, set: StagedSet, lane: u8) -> bool {
         let eq_and_amplitudes = self.image[EQ_MAX_AND_AMPLITUDES];
         let cursors = self.image[CURSOR_MAX];
-        let amplitude = self.nibble(STAGED_AMPLITUDE, lane);
-        self.nibble(STAGED_INPUT_EQ, lane) <= eq_and_amplitudes & 0xF
-            && self.nibble(STAGED_PRE_CURSOR, lane) <= cursors & 0xF
-            && self.nibble(STAGED_POST_CURSOR, lane) <= cursors >> 4
+        let amplitude = self.nibble(set.place(STAGED_AMPLITUDE), lane);
+        self.nibble(set.place(STAGED_INPUT_EQ), lane) <= eq_and_amplitudes & 0xF
+            && self.nibble(set.place(STAGED_PRE_CURSOR), lane) <= cursors & 0xF
+            && self.nibble(set.place(STAGED_POST_CURSOR), lane) <= cursors >> 4
             && amplitude <= 3
             && eq_and_amplitudes >> (4 + amplitude) & 1 != 0
     }

@@ -81,13 +81,15 @@ pub const RX_POWER_LOW_ALARM: usize = P02 + 194;
 pub const RX_POWER_HIGH_WARNING: usize = P02 + 196;
 pub const RX_POWER_LOW_WARNING: usize = P02 + 198;
 
-// ---- page 10h: controls and the staged control set ----
+// ---- page 10h: controls and the staged control sets ----
 
 pub const DP_DEINIT: usize = P10 + 128;
 /// A bit a lane: its output must not shine.
 pub const OUTPUT_DISABLE_TX: usize = P10 + 130;
 /// A bit a lane: its output is held at squelch.
 pub const OUTPUT_SQUELCH_FORCE_TX: usize = P10 + 132;
+// From here to the amplitudes: registers of Staged Control Set 0. Those of set 1
+// are where `StagedSet::place` says.
 pub const APPLY_DP_INIT: usize = P10 + 143;
 pub const APPLY_IMMEDIATE: usize = P10 + 144;
 /// Eight bytes, one a lane: AppSel 7-4, DataPathID 3-1, ExplicitControl 0.
@@ -99,6 +101,8 @@ pub const STAGED_CDR_RX: usize = P10 + 161;
 pub const STAGED_PRE_CURSOR: usize = P10 + 162;
 pub const STAGED_POST_CURSOR: usize = P10 + 166;
 pub const STAGED_AMPLITUDE: usize = P10 + 170;
+/// How far each of them lies higher in Staged Control Set 1.
+const SET_1_ABOVE: usize = 35;
 /// Masks of the twenty flag bytes 11h:134-153, in the same order.
 pub const LANE_MASKS: usize = P10 + 213;
 
@@ -200,6 +204,26 @@ pub mod answer {
     pub const NO_SUCH_PLACE: u8 = 8;
     pub const MALFORMED: u8 = 9;
     pub const BACK_TO_FRONT: u8 = 10;
+}
+
+/// One of the two Staged Control Sets, which have the same registers.
+#[derive(Clone, Copy, PartialEq, Eq, Debug)]
+pub enum StagedSet {
+    Zero,
+    One,
+}
+
+impl StagedSet {
+    pub const BOTH: [StagedSet; 2] = [StagedSet::Zero, StagedSet::One];
+
+    /// Where the set has a register, given where set 0 has it.
+    #[inline(always)]
+    pub const fn place(self, in_set_0: usize) -> usize {
+        match self {
+            StagedSet::Zero => in_set_0,
+            StagedSet::One => in_set_0 + SET_1_ABOVE,
+        }
+    }
 }
 
 /// Where the descriptor of an AppSel of 1 to 15 begins.

@@ -114,6 +114,7 @@ impl<'a> View<'a> {
             Some(other) => {
                 other.group == own.group
                     && other.trigger == own.trigger
+                    && other.set == own.set
                     && other.verdict == own.verdict
             }
         });

@@ -6,8 +6,9 @@ use crate::messages::{left_by_write, runs_command};
 use crate::nights::Made;
 use crate::power::{all_deactivated, is_reset, powers_plainly};
 use crate::rng::Rng;
-use crate::rules::interrupts;
-use crate::sound_states::make_sound_state;
+use crate::rules::{interrupts, left_by_write_on_10h};
+use crate::sound_states::*;
+use crate::staged::trigger_at;
 use crate::state::*;
 use second::lanes::*;
 use second::module::*;
@@ -23,6 +24,7 @@ pub struct Claims {
     pub made_states: u64,
     pub made_events: u64,
     pub made_late_events: u64,
+    pub groups_of_two_sets: u64,
 }
 
 impl Claims {
@@ -77,6 +79,11 @@ impl Claims {
             return Ok(());
         }
         self.made_states += 1;
+        self.refuse_two_sets(rng, &state)?;
+        let mut exchanged = with_sets_exchanged(&state);
+        if !soundness::sound(&exchanged.image, &exchanged.working.lanes) {
+            return Err(format!("not sound from the other set: {:?}", state.working));
+        }
         // With no group half way, the late run can begin here as well.
         let fresh = (0..8).filter_map(|lane| state.apply(lane)).all(|apply| passing(&apply).is_none());
         let mut late = if fresh { Some(state.clone()) } else { None };
@@ -100,7 +107,11 @@ impl Claims {
             }
             if outcome.answer == 0 {
                 plainly(&before, &event, &maker.state)?;
-                reset_bit_reads_as_0(&event, &buffer)?;
+                hides_what_is_never_stored(&before, &event, &buffer)?;
+            }
+            let gave = (outcome, buffer[..outcome.read as usize].to_vec());
+            if exchanged.step(&event) != gave || !same_but_for_sets(&maker.state, &exchanged) {
+                return Err(format!("{:?} goes by the set that a group was held from", event));
             }
             if let Some(late) = &mut late {
                 self.made_late_events += 1;
@@ -114,6 +125,40 @@ impl Claims {
         }
         Ok(())
     }
+
+    /// A group whose lanes name both sets breaks (b), and a call refuses it.
+    fn refuse_two_sets(&mut self, rng: &mut Rng, state: &State) -> Result<(), String> {
+        let torn = match with_a_group_of_two_sets(state, rng) {
+            Some(torn) => torn,
+            None => return Ok(()),
+        };
+        self.groups_of_two_sets += 1;
+        let found = soundness::unsound_at(&torn.image, &torn.working.lanes);
+        let mut after = torn.clone();
+        let line = Event::Line { on: true };
+        let outcome = desk(&mut after.image, &mut after.working, &line, &mut []);
+        if matches!(found, Some(('b', _))) && outcome.answer == 3 && after == torn {
+            Ok(())
+        } else {
+            Err(format!("a group of two sets is taken: {:?}, {:?}", found, torn.working))
+        }
+    }
+}
+
+/// Whether two states are the same but for the sets that groups were held from.
+fn same_but_for_sets(one: &State, other: &State) -> bool {
+    let without_sets = |state: &State| {
+        state.working.lanes.map(|record| match record.stage {
+            Stage::InProgress(apply) => {
+                let stage = Stage::InProgress(Apply { set: StagedSet::Zero, ..apply });
+                LaneRecord { stage, ..record }
+            }
+            Stage::Idle => record,
+        })
+    };
+    one.image == other.image
+        && one.working.line == other.working.line
+        && without_sets(one) == without_sets(other)
 }
 
 /// Whether an event that is done runs a command.
@@ -134,25 +179,37 @@ fn dark_below_ready(state: &State) -> bool {
     }
 }
 
-/// Bit 3 of lower 26 is 0 in what is read, also where a lent image has it at 1.
-fn reset_bit_reads_as_0(event: &Event, read: &[u8]) -> Result<(), String> {
-    match *event {
-        Event::Read { address: address @ 0..=26, count }
-            if address + count > 26 && read[26 - address as usize] & 0x08 != 0 =>
-        {
-            Err(format!("{:?} shows the reset bit", event))
+/// The reset bit and the triggers are 0 in what is read, also where a lent image
+/// has something else there.
+fn hides_what_is_never_stored(before: &State, event: &Event, read: &[u8]) -> Result<(), String> {
+    if let Event::Read { address, count } = *event {
+        for (at, byte) in (address..=255).zip(&read[..count as usize]) {
+            let hidden = match at {
+                26 => 0x08,
+                128.. if before.page() == 0x10 && trigger_at(at).is_some() => 0xFF,
+                _ => 0,
+            };
+            if byte & hidden != 0 {
+                return Err(format!("{:?} shows what is never stored", event));
+            }
         }
-        _ => Ok(()),
     }
+    Ok(())
 }
 
-/// Holds an event that is done against the plain rules of page 9Fh, of the module's states, of
-/// what is on and of the interrupt.
+/// Holds an event that is done against the plain rules of pages 10h and 9Fh, of the module's
+/// states, of what is on and of the interrupt.
 fn plainly(before: &State, event: &Event, after: &State) -> Result<(), String> {
-    if let Event::Write { address, count, data } = *event {
-        let on_9fh = address >= 128 && before.page() == 0x9F;
-        if on_9fh && after.image != left_by_write(before, address, &data[..count as usize]) {
-            return Err(format!("{:?} on page 9Fh leaves otherwise than the plain rule", event));
+    if let Event::Write { address: address @ 128.., count, data } = *event {
+        let data = &data[..count as usize];
+        let (page, right) = match before.page() {
+            0x9F => ("9Fh", after.image == left_by_write(before, address, data)),
+            0x10 => ("10h", *after == left_by_write_on_10h(before, address, data)),
+            _ => ("", true),
+        };
+        if !right {
+            let what = "leaves otherwise than the plain rule";
+            return Err(format!("{:?} on page {} {}", event, page, what));
         }
     }
     powers_plainly(before, event, after)?;

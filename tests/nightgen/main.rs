@@ -3,18 +3,19 @@
 //! Every night is made event by event against the second program's core, so
 //! that the generator knows the state and can aim: at lanes in progress, at
 //! paths in a given state, at the edges of an access, at command messages that
-//! are right but for one byte, at flags that are on, at the module's own states.
-//! A plain restatement of grouping, verdicts, commands, the module's states and
-//! what is on is held against the core on the way. The same seed always gives the
-//! same files.
+//! are right but for one byte, at flags that are on, at the module's own states,
+//! at one staged set while the other is at work. A plain restatement of grouping,
+//! verdicts, triggers, commands, the module's states and what is on is held against
+//! the core on the way. The same seed always gives the same files.
 //!
-//! * `rng`, `state`: random numbers; the state a night has reached.
-//! * `rules`, `messages`, `power`, `lasting`: grouping, verdicts, the interrupt,
-//!   command messages, the module's states with its reset, and what is on, said
-//!   plainly.
+//! * `rng`, `staged`, `state`: random numbers; where the staged sets lie; the state
+//!   a night has reached.
+//! * `rules`, `messages`, `power`, `lasting`: grouping, verdicts, triggers, the
+//!   interrupt, command messages, the module's states with its reset, and what is
+//!   on, said plainly.
 //! * `image`, `aims`, `nights`: images, events that aim at the state, and the
 //!   nights and files made of them.
-//! * `coverage`: what must occur, and the counts of what did.
+//! * `tally`, `coverage`: what must occur, and the counts of what did.
 //! * `damage`: damaged files.
 //! * `claims`, `sound_states`: soundness and demand 3, from start and from
 //!   states made otherwise.
@@ -37,7 +38,9 @@ mod power;
 mod rng;
 mod rules;
 mod sound_states;
+mod staged;
 mod state;
+mod tally;
 
 use self::claims::Claims;
 use self::coverage::Coverage;
@@ -123,13 +126,10 @@ fn nights(options: &Options) -> Result<(), String> {
         output.put(index, &file).map_err(failed)?;
     }
     output.finish().map_err(failed)?;
-    if options.count > 0 {
-        let missing = coverage.print(&mut options.report()).map_err(failed)?;
-        if missing > 0 {
-            return Err(format!("{} things never occurred", missing));
-        }
+    match options.count {
+        0 => Ok(()),
+        _ => all_occurred(coverage.print(&mut options.report()).map_err(failed)?),
     }
-    Ok(())
 }
 
 fn damaged(options: &Options) -> Result<(), String> {
@@ -178,6 +178,13 @@ fn damaged(options: &Options) -> Result<(), String> {
         ));
     }
     Ok(())
+}
+
+fn all_occurred(missing: usize) -> Result<(), String> {
+    match missing {
+        0 => Ok(()),
+        _ => Err(format!("{} things never occurred", missing)),
+    }
 }
 
 /// In edition 3 the same records but for the module events, which are first.
@@ -234,6 +241,10 @@ fn check(options: &Options) -> Result<(), String> {
     println!(
         "{} of these events from states with no passing group: the late run agrees as well",
         claims.made_late_events
+    );
+    println!(
+        "the set that a group was held from has no say in any of them; {} groups of two sets are refused",
+        claims.groups_of_two_sets
     );
     println!(
         "{} nights and damaged files in {} pieces: the streaming form prints the same as for each in one",

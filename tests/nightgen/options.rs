@@ -37,12 +37,16 @@ impl Options {
         Ok(options)
     }
 
+    /// The directory for files that have names.
+    pub fn directory(&self) -> Result<PathBuf, String> {
+        let dir = self.dir.as_ref().ok_or("give --dir")?;
+        fs::create_dir_all(dir).map_err(|error| format!("{}: {}", dir, error))?;
+        Ok(Path::new(dir).to_path_buf())
+    }
+
     pub fn output(&self) -> Result<Output, String> {
         match (&self.dir, &self.stream) {
-            (Some(dir), None) => {
-                fs::create_dir_all(dir).map_err(|error| format!("{}: {}", dir, error))?;
-                Ok(Output::Dir(Path::new(dir).to_path_buf()))
-            }
+            (Some(_), None) => Ok(Output::Dir(self.directory()?)),
             (None, Some(name)) if name == "-" => {
                 Ok(Output::Stream(Box::new(BufWriter::new(io::stdout()))))
             }

@@ -1,6 +1,7 @@
-//! Grouping, verdicts and the interrupt, said plainly: held against the core on
-//! every trigger, and after every event.
+//! Grouping, verdicts, triggers and the interrupt, said plainly: held against the
+//! core on every write on page 10h, and after every event.
 
+use crate::staged::{keeps, places, trigger_at};
 use crate::state::State;
 use second::lanes::*;
 use second::registers::*;
@@ -25,11 +26,11 @@ pub fn interrupts(image: &[u8; IMAGE_LEN]) -> bool {
     of_a_lane || of_a_command || of_the_module
 }
 
-/// The groups a trigger's selected lanes fall into.
-pub fn groups(state: &State, selected: u8) -> Vec<u8> {
+/// The groups that the selected lanes of a set's trigger fall into.
+pub fn groups(state: &State, set: StagedSet, selected: u8) -> Vec<u8> {
     let mut groups: BTreeMap<(u8, u8), u8> = BTreeMap::new();
     for lane in LaneSet(selected) {
-        let staged = state.staged(lane);
+        let staged = state.staged(set, lane);
         let key = if staged >> 4 != 0 {
             (0, staged >> 1 & 7)
         } else if state.active(lane) >> 4 != 0 {
@@ -42,10 +43,10 @@ pub fn groups(state: &State, selected: u8) -> Vec<u8> {
     groups.values().copied().collect()
 }
 
-/// Status code a group will be closed with, and why.
-pub fn judge(state: &State, trigger: Trigger, group: u8) -> (u8, &'static str) {
+/// Status code a group of a set will be closed with, and why.
+pub fn judge(state: &State, set: StagedSet, trigger: Trigger, group: u8) -> (u8, &'static str) {
     let lanes: Vec<u8> = LaneSet(group).collect();
-    let own = state.staged(lanes[0]);
+    let own = state.staged(set, lanes[0]);
     if own >> 4 == 0 {
         if state.active(lanes[0]) >> 4 == 0 {
             return (1, "1 release: lane on no path");
@@ -60,7 +61,7 @@ pub fn judge(state: &State, trigger: Trigger, group: u8) -> (u8, &'static str) {
         return (1, "1 release: whole path");
     }
     let app_sel = own >> 4;
-    if lanes.iter().any(|&lane| state.staged(lane) >> 4 != app_sel) {
+    if lanes.iter().any(|&lane| state.staged(set, lane) >> 4 != app_sel) {
         return (4, "4 AppSels differ");
     }
     let at = descriptor_at(app_sel);
@@ -90,26 +91,9 @@ pub fn judge(state: &State, trigger: Trigger, group: u8) -> (u8, &'static str) {
     if lanes.iter().any(|&lane| state.active(lane) >> 4 != 0 && state.path(lane) != group) {
         return (6, "6 lane on another active path");
     }
-    let (limits, cursors) = (state.image[P01 + 153], state.image[P01 + 154]);
-    for &lane in &lanes {
-        if state.staged(lane) & 1 == 0 {
-            continue;
-        }
-        if state.nibble(STAGED_INPUT_EQ, lane) > limits & 15 {
-            return (5, "5 input EQ above its limit");
-        }
-        if state.nibble(STAGED_PRE_CURSOR, lane) > cursors & 15 {
-            return (5, "5 pre-cursor above its limit");
-        }
-        if state.nibble(STAGED_POST_CURSOR, lane) > cursors >> 4 {
-            return (5, "5 post-cursor above its limit");
-        }
-        let amplitude = state.nibble(STAGED_AMPLITUDE, lane);
-        if amplitude > 3 {
-            return (5, "5 amplitude code above 3");
-        }
-        if limits & 16 << amplitude == 0 {
-            return (5, "5 amplitude code not supported");
+    for &lane in lanes.iter().filter(|&&lane| state.staged(set, lane) & 1 != 0) {
+        if let Some(reason) = above_limits(state, &settings(state, set, lane)) {
+            return (5, reason);
         }
     }
     let dp_state = state.dp_state(lanes[0]);
@@ -127,4 +111,81 @@ pub fn judge(state: &State, trigger: Trigger, group: u8) -> (u8, &'static str) {
         (7, Trigger::ApplyDPInit) => (1, "1 ApplyDPInit in DPInitialized"),
         _ => (2, "2 state is transient"),
     }
+}
+
+/// What is wrong with the settings of a lane with ExplicitControl, if something is.
+fn above_limits(state: &State, settings: &Settings) -> Option<&'static str> {
+    let (limits, cursors) = (state.image[P01 + 153], state.image[P01 + 154]);
+    if settings.input_eq > limits & 15 {
+        Some("5 input EQ above its limit")
+    } else if settings.pre_cursor > cursors & 15 {
+        Some("5 pre-cursor above its limit")
+    } else if settings.post_cursor > cursors >> 4 {
+        Some("5 post-cursor above its limit")
+    } else if settings.amplitude > 3 {
+        Some("5 amplitude code above 3")
+    } else if limits & 16 << settings.amplitude == 0 {
+        Some("5 amplitude code not supported")
+    } else {
+        None
+    }
+}
+
+/// The settings that a set has staged for a lane.
+pub fn settings(state: &State, set: StagedSet, lane: u8) -> Settings {
+    let places = places(set);
+    let dp_config = state.staged(set, lane);
+    let bit = |place: usize| state.image[place] >> lane & 1 != 0;
+    Settings {
+        app_sel: dp_config >> 4,
+        data_path_id: dp_config >> 1 & 7,
+        explicit_control: dp_config & 1 != 0,
+        adaptive_eq: bit(places.adaptive_eq),
+        cdr_tx: bit(places.cdr_tx),
+        cdr_rx: bit(places.cdr_rx),
+        input_eq: state.nibble(places.input_eq, lane),
+        pre_cursor: state.nibble(places.pre_cursor, lane),
+        post_cursor: state.nibble(places.post_cursor, lane),
+        amplitude: state.nibble(places.amplitude, lane),
+    }
+}
+
+/// The state that a trigger leaves.
+pub fn triggered(before: &State, set: StagedSet, trigger: Trigger, selected: u8) -> State {
+    let mut after = before.clone();
+    if trigger == Trigger::ApplyImmediate && before.image[2] & 0x40 != 0 {
+        return after;
+    }
+    for group in groups(before, set, selected) {
+        if group & before.in_progress() != 0 {
+            continue;
+        }
+        let verdict = match judge(before, set, trigger, group).0 {
+            1 => Verdict::Pass { next: group.trailing_zeros() as u8 },
+            code => Verdict::Reject { code },
+        };
+        for lane in LaneSet(group) {
+            let held = settings(before, set, lane);
+            after.working.lanes[lane as usize].stage =
+                Stage::InProgress(Apply { group, trigger, set, held, verdict });
+            let status = &mut after.image[P11 + 202 + lane as usize / 2];
+            *status = if lane % 2 == 0 { *status & 0xF0 | 0x0C } else { *status & 0x0F | 0xC0 };
+        }
+    }
+    after
+}
+
+/// The state that a write on page 10h leaves: byte by byte, a trigger acts at its
+/// own byte, and the interrupt is settled at the end.
+pub fn left_by_write_on_10h(before: &State, address: u8, data: &[u8]) -> State {
+    let mut state = before.clone();
+    for (at, &byte) in (address..=255).zip(data) {
+        match trigger_at(at) {
+            Some((set, trigger)) => state = triggered(&state, set, trigger, byte),
+            None if keeps(at) => state.image[P10 + at as usize] = byte,
+            None => {}
+        }
+    }
+    state.image[3] = state.image[3] & 0xFE | !interrupts(&state.image) as u8;
+    state
 }

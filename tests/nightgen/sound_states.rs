@@ -1,8 +1,10 @@
-//! Sound states that no start need lead to.
+//! Sound states that no start need lead to, and what becomes of one where its
+//! records name another staged set.
 
 use crate::image::{limits, make_image, put_limits, turned_round};
 use crate::lasting::{index, OF_CONDITIONS, OF_RECEIVED_POWER};
 use crate::rng::Rng;
+use crate::staged::other;
 use crate::state::State;
 use second::applications::find_descriptor;
 use second::lanes::*;
@@ -10,8 +12,8 @@ use second::module::as_copied;
 use second::registers::*;
 
 /// Builds a state meant to be sound, with the module and its paths in any state,
-/// bits pending, groups in progress at any point, some of the flags on; the
-/// caller asks whether it is.
+/// bits pending, groups of either set in progress at any point, some of the flags
+/// on; the caller asks whether it is.
 pub fn make_sound_state(rng: &mut Rng) -> State {
     let mut image = make_image(rng, true);
     // Bytes that no start would leave: soundness says nothing of them.
@@ -100,6 +102,7 @@ pub fn make_sound_state(rng: &mut Rng) -> State {
             Verdict::Pass { next: rng.pick(&lanes) }
         };
         let trigger = rng.pick(&[Trigger::ApplyDPInit, Trigger::ApplyImmediate]);
+        let set = rng.pick(&StagedSet::BOTH);
         for lane in LaneSet(group) {
             let held = Settings {
                 app_sel: if release { 0 } else { app_sel },
@@ -114,7 +117,7 @@ pub fn make_sound_state(rng: &mut Rng) -> State {
                 amplitude: rng.byte() & 15,
             };
             state.working.lanes[lane as usize].stage =
-                Stage::InProgress(Apply { group, trigger, held, verdict });
+                Stage::InProgress(Apply { group, trigger, set, held, verdict });
             put(&mut state.image, CONFIG_STATUS, lane, 12);
             if matches!(verdict, Verdict::Pass { next } if lane < next) {
                 let new = as_copied(held);
@@ -135,4 +138,38 @@ pub fn make_sound_state(rng: &mut Rng) -> State {
         }
     }
     state
+}
+
+/// The state with these lanes' records saying that they were held from the other
+/// set.
+fn with_set_exchanged(state: &State, lanes: u8) -> State {
+    let mut exchanged = state.clone();
+    for lane in LaneSet(lanes) {
+        if let Stage::InProgress(apply) = &mut exchanged.working.lanes[lane as usize].stage {
+            apply.set = other(apply.set);
+        }
+    }
+    exchanged
+}
+
+/// The state with every group held from the other set, which is as sound.
+pub fn with_sets_exchanged(state: &State) -> State {
+    with_set_exchanged(state, 0xFF)
+}
+
+/// The state with a group of two sets, which is not sound, if it has a group of
+/// more than one lane.
+pub fn with_a_group_of_two_sets(state: &State, rng: &mut Rng) -> Option<State> {
+    let in_company = state.lanes_where(|lane| match state.apply(lane) {
+        Some(apply) => apply.group.count_ones() > 1,
+        None => false,
+    });
+    if in_company == 0 {
+        return None;
+    }
+    let group = state.apply(rng.lane_of(in_company))?.group;
+    // At least one lane and not all of them.
+    let lanes = group & rng.byte() & !(1 << rng.lane_of(group));
+    let lanes = if lanes == 0 { 1 << rng.lane_of(group) } else { lanes };
+    Some(with_set_exchanged(state, lanes))
 }

@@ -1,5 +1,6 @@
 //! The state a night has reached, and what a host or a test can ask of it.
 
+use crate::staged::places;
 use second::lanes::*;
 use second::module::*;
 use second::registers::*;
@@ -48,6 +49,11 @@ impl State {
         self.lanes_where(|lane| self.apply(lane).is_some())
     }
 
+    /// The lanes in progress whose settings were held from a set.
+    pub fn in_progress_from(&self, set: StagedSet) -> u8 {
+        self.lanes_where(|lane| self.apply(lane).map_or(false, |apply| apply.set == set))
+    }
+
     /// The lanes on which something is on.
     pub fn with_something_on(&self) -> u8 {
         self.lanes_where(|lane| self.working.lanes[lane as usize].on != 0)
@@ -61,8 +67,9 @@ impl State {
         self.nibble(DP_STATE, lane)
     }
 
-    pub fn staged(&self, lane: u8) -> u8 {
-        self.image[STAGED_DP_CONFIG + lane as usize]
+    /// The DPConfig byte that a set has staged for a lane.
+    pub fn staged(&self, set: StagedSet, lane: u8) -> u8 {
+        self.image[places(set).dp_config + lane as usize]
     }
 
     pub fn active(&self, lane: u8) -> u8 {

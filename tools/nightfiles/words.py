@@ -380,6 +380,7 @@ REGISTERS = {
         Register(138, 138, "OutputDisableRx", lane_bits),
         Register(139, 139, "AutoSquelchDisableRx", lane_bits),
         *control_set(145, "staged"),
+        *control_set(180, "staged set 1"),
         Register(213, 232, "masks", raised),
     ),
     0x11: (

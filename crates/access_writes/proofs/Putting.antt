@@ -1,24 +1,29 @@
 -- A plain write leaves the lanes' records, and is put from its first place on. Assumes nothing.
-use mathlib.Core.Path.{_≡_, refl, ap, _∙_}
-use mathlib.Core.Bool.{true, not, _&&_, _||_}
+use mathlib.Core.Path.{_≡_, refl, sym, ap, _∙_}
+use mathlib.Core.Bool.{Bool, true, not, _||_}
 use mathlib.Core.List.{List, [], _∷_}
-use mathlib.Core.Logic.{_⊎_, inl, inr}
 use Prim.Native.Nat.{ℕ, suc, _+_, _-_, _≤_, _<_}
-use native.Mathlib.Nat.{add-zero}
+use native.Mathlib.Nat.{add-zero, add-suc}
 use native.Mathlib.Numerals.{add-one}
 use native.Mathlib.Omega.{arith}
 use lib.Dec.{eqb, leb, ltb}
 use lib.ListN.{length, getD, drop}
 use lib.Seq.{getD-set-other, drop-cons, drop-length}
 use borrow.Author.Tests.{lt-ltb, le-ltb, ltb-false, leb-false, eqb-true, ne-eqb, not-true}
-use Rattle.bits.specs.Choice.{pick, both, either}
-use Rattle.bits.proofs.Tests.{split, either-l, either-r, and-both, or-either}
-use Rattle.model.specs.Map.{Image, moduleControls, pageSelect, applyDPInit, applyImmediate, writable}
+use Rattle.bits.specs.Choice.{pick, either}
+use Rattle.bits.proofs.Tests.{split, either-l, either-r, or-either}
+use Rattle.model.specs.Map.{Image, moduleControls, pageSelect, triggerAt, writable}
 use Rattle.model.specs.Pages.{selectedStart, indexOf}
-use Rattle.model.specs.Access.{withoutReset, storedState, byteWrittenState, bytesWrittenState, halfEnd}
-use Rattle.model.specs.State.{stateWith}
+use Rattle.model.specs.Access.{withoutReset, storedBy, storedState, byteWrittenState, bytesWrittenState, halfEnd}
+use Rattle.model.specs.State.{State, stateWith}
+use Rattle.model.specs.Triggers.{triggeredState}
+use Rattle.model.specs.declared.lane.Apply.{Apply}
 use Rattle.model.specs.declared.lane.Working.{Working}
+use Rattle.model.specs.declared.lane.TriggerPlace.the-variants.{NoTrigger, Applies}
 use Rattle.model.proofs.Starts.{start-past}
+use Rattle.model.proofs.Triggers.{at-row, no-trigger-below}
+use Rattle.map.specs.Meets.{meetsTriggers}
+use Rattle.map.proofs.Triggers.{clear-place}
 use Rattle.access_writes.specs.Puts.{isPlain, bytePut, bytesPut}
 
 -- a byte of another index than 26 is stored whole
@@ -26,18 +31,21 @@ whole-byte : (i v : ℕ) → (i ≡ moduleControls → ⊥) → withoutReset i v
 unfolding withoutReset pick
 whole-byte i v n = rw (ne-eqb i moduleControls n, pick)
 
+-- a trigger's place
+pub stored-trigger : (i v : ℕ) (s : State) (a : Apply) → triggerAt i ≡ Applies a → storedState i v s ≡ triggeredState (a .trigger) (a .set) s v
+unfolding storedState storedBy pick
+stored-trigger i v s a e = let t = at-row i a e in rw (ne-eqb i pageSelect (λ q. omega (arith, t .late)), e, pick, storedBy)
+
 -- a place that is no trigger's
-pub stored-other : (i v : ℕ) (x : Image) (w : Working) → (i ≡ applyDPInit → ⊥) → (i ≡ applyImmediate → ⊥)
-    → storedState i v (stateWith x w) ≡ stateWith (bytePut i (withoutReset i v) x) w
-unfolding storedState bytePut pick
-stored-other i v x w p q = split (eqb i pageSelect)
+pub stored-other : (i v : ℕ) (x : Image) (w : Working) → triggerAt i ≡ NoTrigger → storedState i v (stateWith x w) ≡ stateWith (bytePut i (withoutReset i v) x) w
+unfolding storedState storedBy bytePut pick
+stored-other i v x w n = split (eqb i pageSelect)
     (λ e. let h : i ≡ pageSelect = eqb-true _ _ e in rw (e, pick, whole-byte i v (λ t. omega arith)))
-    (λ e. split (writable i) (λ f. rw (e, ne-eqb i applyDPInit p, ne-eqb i applyImmediate q, f, pick)) (λ f. rw (e, ne-eqb i applyDPInit p, ne-eqb i applyImmediate q, f, pick)))
+    (λ e. split (writable i) (λ f. rw (e, n, f, pick, storedBy)) (λ f. rw (e, n, f, pick, storedBy)))
 
 -- .. and lies past lower 26
-stored-plain : (i v : ℕ) (x : Image) (w : Working) → moduleControls < i → (i ≡ applyDPInit → ⊥) → (i ≡ applyImmediate → ⊥)
-    → storedState i v (stateWith x w) ≡ stateWith (bytePut i v x) w
-stored-plain i v x w h p q = stored-other i v x w p q ∙ rw (whole-byte i v (λ e. omega arith))
+stored-plain : (i v : ℕ) (x : Image) (w : Working) → moduleControls < i → triggerAt i ≡ NoTrigger → storedState i v (stateWith x w) ≡ stateWith (bytePut i v x) w
+stored-plain i v x w h n = stored-other i v x w n ∙ rw (whole-byte i v (λ e. omega arith))
 
 -- a byte put past lower memory leaves the selected page
 page-kept : (i v : ℕ) (x : Image) → 128 ≤ i → selectedStart (bytePut i v x) ≡ selectedStart x
@@ -52,39 +60,33 @@ lower-put : (a : ℕ) (vs : List ℕ) (x : Image) (w : Working) → moduleContro
 unfolding bytesWrittenState byteWrittenState bytesPut indexOf pick
 lower-put a [] x w l h = refl
 lower-put a (v ∷ vs) x w l h =
-    rw (lt-ltb a 128 (omega arith), pick, stored-plain a v x w l (λ e. omega arith) (λ e. omega arith))
+    rw (lt-ltb a 128 (omega arith), pick, stored-plain a v x w l (no-trigger-below a (omega arith)))
     (lower-put (suc a) vs (bytePut a v x) w (omega arith) (omega arith))
 
 -- ---- n places from i on, none of them a trigger's
 
--- the code's tests
-pub plain-by : (i j n : ℕ) → i ≡ j → not ((leb i applyImmediate && ltb applyDPInit (i + n)) || leb i moduleControls) ≡ isPlain j n
-unfolding isPlain
-plain-by i j n e = ap not (or-either _ _ ∙ ap (λ t. either t (leb i moduleControls)) (and-both _ _)) ∙ ap (λ k. isPlain k n) e
-
 abbrev Clear : ℕ → ℕ → Type 0
-Clear i n = (applyImmediate < i) ⊎ (i + n ≤ applyDPInit)
+Clear i n = (k : ℕ) → k < n → triggerAt (i + k) ≡ NoTrigger
+
+-- the code's tests
+pub plain-by : (i j n : ℕ) (m : Bool) → m ≡ meetsTriggers i n → i ≡ j → not (m || leb i moduleControls) ≡ isPlain j n
+unfolding isPlain
+plain-by i j n m h e = ap not (or-either _ _ ∙ ap (λ t. either t (leb i moduleControls)) h) ∙ ap (λ k. isPlain k n) e
 
 -- a plain write's are such, and lie past lower 26
 clear-by : (i n : ℕ) → isPlain i n ≡ true → Clear i n
-unfolding isPlain both
-clear-by i n e =
-    let t = either-l _ _ (not-true _ e) in
-    split (leb i applyImmediate)
-    (λ p. inr (ltb-false applyDPInit (i + n) (rw (p, both) at t)))
-    (λ f. inl (leb-false i applyImmediate f))
+unfolding isPlain
+clear-by i n e k h = clear-place i n k (either-l _ _ (not-true _ e)) h
 
 pub plain-past : (i n : ℕ) → isPlain i n ≡ true → moduleControls < i
 unfolding isPlain
 plain-past i n e = leb-false i moduleControls (either-r _ _ (not-true _ e))
 
-clear-here : (i n : ℕ) → Clear i (suc n) → (i ≡ applyDPInit → ⊥) × (i ≡ applyImmediate → ⊥)
-clear-here i n (inl l) = (λ e. omega arith, λ e. omega arith)
-clear-here i n (inr l) = (λ e. omega arith, λ e. omega arith)
+clear-here : (i n : ℕ) → Clear i (suc n) → triggerAt i ≡ NoTrigger
+clear-here i n c = ap triggerAt (sym (add-zero i)) ∙ c 0 (omega arith)
 
 clear-next : (i n : ℕ) → Clear i (suc n) → Clear (suc i) n
-clear-next i n (inl l) = inl (omega arith)
-clear-next i n (inr l) = inr (omega arith)
+clear-next i n c k h = let e : suc i + k ≡ i + suc k = omega arith in ap triggerAt e ∙ c (suc k) (omega arith)
 
 -- in upper memory the page stays selected
 upper-put : (a i : ℕ) (vs : List ℕ) (x : Image) (w : Working) → 128 ≤ a → i ≡ selectedStart x + (a - 128) → Clear i (length vs)
@@ -94,7 +96,7 @@ upper-put a i [] x w h e c = refl
 upper-put a i (v ∷ vs) x w h e c =
     let n = clear-here i (length vs) c in
     let l : 128 ≤ i = omega (arith, start-past x) in
-    rw (le-ltb a 128 h, pick, ← e, stored-plain i v x w (omega arith) (n .0) (n .1))
+    rw (le-ltb a 128 h, pick, ← e, stored-plain i v x w (omega arith) n)
     (upper-put (suc a) (suc i) vs (bytePut i v x) w (omega arith) (rw (page-kept i v x l) (omega arith)) (clear-next i (length vs) c))
 
 -- a plain write

@@ -9,7 +9,7 @@ ghost use Rattle.model.specs.Access.{storedState, byteWrittenState, bytesWritte
 ghost use Rattle.contracts.specs.Contracts.{IsState};
 ghost use Rattle.model.specs.State.{stateWith};
 ghost use Rattle.access_writes.specs.Puts.{isPlain, bytePut, bytesPut};
-use model::lane::Trigger;
+use model::lane::TriggerPlace;
 use model::lane::Working;
 
 // A byte of a page's 128, which are lent as a part of the image.
@@ -49,14 +49,17 @@ fn write_at(image: &mut [u8], w: Working, start: usize, offset: usize, v: u8) ->
     ensures { λ r. ⌜ IsState (storedState (start + offset) v (stateWith (now (image .entry)) w)) (now (image .exit)) r ⌝ }
 {
     let i = start + offset;
-    if i == map::APPLY_DP_INIT {
-        return apply_triggers::trigger(image, w, Trigger::DpInit, map::STAGED_SET_0, v);
+    match map::trigger_at(i) {
+        TriggerPlace::NoTrigger => {
+            put_byte(image, start, offset, map::without_reset(i, v));
+            w
+        }
+        TriggerPlace::Applies(apply) => {
+            let kind = apply.trigger;
+            let set = apply.set;
+            apply_triggers::trigger(image, w, kind, set, v)
+        }
     }
-    if i == map::APPLY_IMMEDIATE {
-        return apply_triggers::trigger(image, w, Trigger::Immediate, map::STAGED_SET_0, v);
-    }
-    put_byte(image, start, offset, map::without_reset(i, v));
-    w
 }
 
 // A byte written to an address.
@@ -87,8 +90,7 @@ pub fn is_plain(image: &[u8], address: u8, n: usize) -> bool
 {
     let first = address as usize;
     let i = pages::half_start(image, first) + first % map::PAGE_LENGTH;
-    let triggers = (i <= map::APPLY_IMMEDIATE) & (map::APPLY_DP_INIT < i + n);
-    !(triggers | (i <= map::MODULE_CONTROLS))
+    !(map::meets_triggers(i, n) | (i <= map::MODULE_CONTROLS))
 }
 
 // The bytes of a plain write: its half of memory starts where it did to the end.

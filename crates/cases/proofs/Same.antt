@@ -15,11 +15,13 @@ use Rattle.model.specs.View.{settingValues}
 use Rattle.model.specs.State.{State}
 use Rattle.model.specs.Work.{early}
 use Rattle.model.specs.Start.{startedState}
-use Rattle.model.specs.Sound.{sameTrigger, sameVerdict, agrees, sameSettings}
+use Rattle.model.specs.Sound.{sameTrigger, sameSet, sameVerdict, agrees, sameSettings}
 use Rattle.model.specs.Step.{step, ending}
 use Rattle.model.specs.Outcome.{listRoom}
 use Rattle.model.specs.declared.event.Event.{Event}
 use Rattle.model.specs.declared.lane.Settings.{Settings}
+use Rattle.model.specs.declared.lane.StagedSet.{StagedSet}
+use Rattle.model.specs.declared.lane.StagedSet.the-variants.{Set0, Set1}
 use Rattle.model.specs.declared.lane.Trigger.{Trigger}
 use Rattle.model.specs.declared.lane.Trigger.the-variants.{DpInit, Immediate}
 use Rattle.model.specs.declared.lane.Verdict.{Verdict}
@@ -43,6 +45,13 @@ same-trigger DpInit DpInit e = refl
 same-trigger DpInit Immediate e = absurd (clash e refl)
 same-trigger Immediate DpInit e = absurd (clash e refl)
 same-trigger Immediate Immediate e = refl
+
+same-set : (a b : StagedSet) → sameSet a b ≡ true → a ≡ b
+unfolding sameSet
+same-set Set0 Set0 e = refl
+same-set Set0 Set1 e = absurd (clash e refl)
+same-set Set1 Set0 e = absurd (clash e refl)
+same-set Set1 Set1 e = refl
 
 same-verdict : (v u : Verdict) → sameVerdict v u ≡ true → v ≡ u
 unfolding sameVerdict
@@ -82,7 +91,8 @@ same-stage (InProgress p) (InProgress q) e = ap InProgress alike
       group = eqb-true (p .group) (q .group) (both-l _ _ agreed) i;
       held = same-settings (p .held) (q .held) (both-r _ _ e) i;
       trigger = same-trigger (p .trigger) (q .trigger) (both-l _ _ (both-r _ _ agreed)) i;
-      verdict = same-verdict (p .verdict) (q .verdict) (both-r _ _ (both-r _ _ agreed)) i;
+      set = same-set (p .set) (q .set) (both-l _ _ (both-r _ _ (both-r _ _ agreed))) i;
+      verdict = same-verdict (p .verdict) (q .verdict) (both-r _ _ (both-r _ _ (both-r _ _ agreed))) i;
     }
 
 same-records : (ps qs : List LaneRecord) → sameRecords ps qs ≡ true → ps ≡ qs

@@ -15,7 +15,7 @@ use Rattle.bits.proofs.Tests.{split, clash, both-l, both-r, both-i}
 use Rattle.bits.proofs.Masks.{next-le}
 use Rattle.model.specs.Map.{imageLength}
 use Rattle.model.specs.Answers.{isDone}
-use Rattle.model.specs.Records.{stageAt, isInProgress, withVerdict}
+use Rattle.model.specs.Records.{stageAt, isInProgress, progressWith, withVerdict}
 use Rattle.model.specs.State.{State}
 use Rattle.model.specs.Work.{early}
 use Rattle.model.specs.Sound.{isSound}
@@ -164,7 +164,7 @@ module _ (room : ℕ) (s : State) (bytes : List ℕ) (a : firstOf (entryRefusals
           laneCount - n,
           rw u (omega arith),
           record {
-            its = record { group = p .group; held = p .held; trigger = p .trigger; verdict = Pass next };
+            its = progressWith p (Pass next);
             stage = copied-lane room s bytes m q b j n v c o size .next l h (ap (λ z. has z l) g ∙ own) ∙ rw (i, withVerdict);
             group = refl;
             left = omega (arith, next-le laneCount (q .group) (suc n));

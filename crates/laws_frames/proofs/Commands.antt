@@ -1,6 +1,6 @@
 -- A command message: what it leaves of the image, and what it looks at. Assumes nothing.
-use mathlib.Core.Path.{_≡_, refl, sym, ap, ap₂, _∙_}
-use mathlib.Core.Bool.{Bool, true}
+use mathlib.Core.Path.{_≡_, refl, ap₂, _∙_}
+use mathlib.Core.Bool.{true}
 use Prim.Native.Nat.{ℕ, zero, suc, _+_, _≤_, _<_}
 use native.Mathlib.Omega.{arith}
 use lib.Dec.{leb}
@@ -10,12 +10,10 @@ use borrow.Author.Tests.{leb-true}
 use Rattle.bits.specs.Choice.{both}
 use Rattle.bits.specs.Loop.{each}
 use Rattle.bits.specs.Place.{put}
-use Rattle.bits.specs.Word.{word}
 use Rattle.bits.proofs.Tests.{split}
 use Rattle.bits.proofs.Loops.{each-ind, each-skip, each-hit}
-use Rattle.bits.proofs.Places.{length-put}
 use Rattle.bits.proofs.Words.{word-ext}
-use Rattle.model.specs.Map.{Image, imageLength, page9F, commandStatus, commandCompleteBit, moduleFlags, firmwareMajor, firmwareMinor, commandNumber, bodyLength, messageCode, replyLength, replyCode, messageBody}
+use Rattle.model.specs.Map.{Image, imageLength, page9F, commandStatus, moduleFlags, firmwareMajor, firmwareMinor, commandNumber, bodyLength, messageCode, replyLength, replyCode, messageBody}
 use Rattle.model.specs.Commands.{sumOf, checkCode, bodyLimit, rightCode, isCodeRight, statusOf, lengthOf, replyOf, withReplyHeader, withReply, repliedImage, completedImage, commandImage}
 use Rattle.model.specs.declared.command.Command.{Command}
 use Rattle.model.specs.declared.command.Command.the-variants.{QueryStatus, ModuleFeatures, FirmwareFeatures, FirmwareInfo}
@@ -25,9 +23,6 @@ use Rattle.laws_frames.specs.Frames.{Beside, SameWithin, SameOffCommand}
 use mathlib.Core.Logic.{_≢_, inl, inr}
 
 -- ---- what it leaves
-
-off-refl : (x : Image) → SameOffCommand x x
-off-refl x = record { size = refl; byte = λ i f s o. refl }
 
 off-trans : {x y z : Image} → SameOffCommand x y → SameOffCommand y z → SameOffCommand x z
 off-trans p q = record { size = q .size ∙ p .size; byte = λ i f s o. q .byte i f s o ∙ p .byte i f s o }

@@ -6,7 +6,7 @@ use mathlib.Core.Logic.{inl, inr, _≢_}
 use Prim.Native.Nat.{ℕ, suc, _+_, _<_}
 use native.Mathlib.Decide.{decLt}
 use native.Mathlib.Omega.{arith}
-use lib.Dec.{eqb, ltb}
+use lib.Dec.{ltb}
 use lib.ListN.{length, getD, take}
 use Rattle.bits.specs.Choice.{pick}
 use Rattle.bits.specs.Loop.{each}
@@ -15,10 +15,9 @@ use Rattle.bits.specs.Sets.{has}
 use Rattle.bits.proofs.Tests.{split, clash, pick-has}
 use Rattle.bits.proofs.Loops.{each-skip, each-hit}
 use Rattle.bits.proofs.Masks.{has-mask, mask-lt}
-use Rattle.model.specs.Map.{Image, imageLength, on, page11, pageSelect, applyDPInit, applyImmediate, stagedSet0, flagAt, lastingCount, lastingFlag, writable}
+use Rattle.model.specs.Map.{Image, imageLength, on, page11, flagAt, lastingCount, lastingFlag}
 use Rattle.model.specs.Records.{stageAt, onAt, onLanes, freedWorking, advancedWorking}
 use Rattle.model.specs.Registers.{withFlags}
-use Rattle.model.specs.View.{viewOf}
 use Rattle.model.specs.State.{State}
 use Rattle.model.specs.Effect.{Effect}
 use Rattle.model.specs.Triggers.{stageAfter, markedState, isIgnored, triggeredState}
@@ -28,7 +27,7 @@ use Rattle.model.specs.Access.{storedState, byteWrittenState, bytesWrittenState
 use Rattle.model.specs.Start.{resetState}
 use Rattle.model.specs.Step.{readEffect, eventEffect}
 use Rattle.model.specs.declared.lane.Trigger.{Trigger}
-use Rattle.model.specs.declared.lane.Trigger.the-variants.{DpInit, Immediate}
+use Rattle.model.specs.declared.lane.StagedSet.{StagedSet}
 use Rattle.model.specs.declared.lane.Verdict.{Verdict}
 use Rattle.model.specs.declared.lane.Verdict.the-variants.{Pass, Reject}
 use Rattle.model.specs.declared.lane.Stage.{Stage}
@@ -39,6 +38,7 @@ use Rattle.model.specs.declared.lane.Working.{Working}
 use Rattle.laws_frames.specs.Frames.{Beside, isReset, onAfter}
 use Rattle.laws_frames.proofs.Outside.{get-same}
 use Rattle.laws_frames.proofs.Registers.{lane-from, lane-to}
+use Rattle.laws_frames.proofs.Stored.{stored-cases}
 use Rattle.laws_frames.proofs.Changes.{flags-outside}
 use Rattle.laws_frames.proofs.Back.{flag-in, flags-alone}
 use Rattle.laws_frames.proofs.Stages.{idle-on, on-in, on-kept}
@@ -48,17 +48,12 @@ module _ (l : ℕ) (h : l < 8) where
   abbrev Kept : State → State → Type 0
   Kept s t = onAt (t .working) l ≡ onAt (s .working) l
 
-  triggered-on : (t : Trigger) (base selected : ℕ) (s : State) → Kept s (triggeredState t base s selected)
+  triggered-on : (t : Trigger) (set : StagedSet) (selected : ℕ) (s : State) → Kept s (triggeredState t set s selected)
   unfolding triggeredState markedState
-  triggered-on t base selected s = pick-has (Kept s) (isIgnored t (s .image)) (λ e. refl) (λ e. on-kept (s .working) (stageAfter t (viewOf base (s .image)) (s .working) selected) l h)
+  triggered-on t set selected s = pick-has (Kept s) (isIgnored t (s .image)) (λ e. refl) (λ e. on-kept (s .working) (stageAfter t set _ (s .working) selected) l h)
 
   stored-on : (i v : ℕ) (s : State) → Kept s (storedState i v s)
-  unfolding storedState
-  stored-on i v s =
-      pick-has (Kept s) (eqb i pageSelect) (λ e. refl)
-      (λ e. pick-has (Kept s) (eqb i applyDPInit) (λ e. triggered-on DpInit stagedSet0 v s)
-      (λ e. pick-has (Kept s) (eqb i applyImmediate) (λ e. triggered-on Immediate stagedSet0 v s)
-      (λ e. pick-has (Kept s) (writable i) (λ e. refl) (λ e. refl))))
+  stored-on i v s = stored-cases (λ u t. Kept s t) i v s s (λ e. refl) (λ kind set. triggered-on kind set v s) (λ e. refl) refl
 
   pub bytes-on : (address : ℕ) (vs : List ℕ) (s : State) → Kept s (bytesWrittenState address vs s)
   unfolding bytesWrittenState byteWrittenState

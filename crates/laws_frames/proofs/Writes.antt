@@ -3,19 +3,19 @@ use mathlib.Core.Path.{_≡_, refl, _∙_}
 use mathlib.Core.Bool.{false}
 use mathlib.Core.List.{List, [], _∷_}
 use Prim.Native.Nat.{ℕ, suc, _-_}
-use lib.Dec.{eqb}
 use lib.ListN.{getD}
 use lib.Seq.{getD-set-other}
 use Rattle.bits.proofs.Tests.{clash, either-l, either-r, pick-has}
-use Rattle.model.specs.Map.{Range, range, inRanges, bankSelect, pageSelect, applyDPInit, applyImmediate, stagedSet0, writableRanges, writable, statusBytes}
+use Rattle.model.specs.Map.{Range, range, inRanges, bankSelect, pageSelect, writableRanges, writable, statusBytes}
 use Rattle.model.specs.Records.{withStages}
 use Rattle.model.specs.State.{State}
 use Rattle.model.specs.Triggers.{isIgnored, markedState, triggeredState}
 use Rattle.model.specs.Access.{storedState, byteWrittenState, bytesWrittenState}
 use Rattle.model.specs.declared.lane.Trigger.{Trigger}
-use Rattle.model.specs.declared.lane.Trigger.the-variants.{DpInit, Immediate}
+use Rattle.model.specs.declared.lane.StagedSet.{StagedSet}
 use Rattle.laws_frames.specs.Frames.{Beside, statusEnd}
 use Rattle.laws_frames.proofs.Ranges.{beside-range}
+use Rattle.laws_frames.proofs.Stored.{stored-cases}
 use Rattle.laws_frames.proofs.Changes.{status-outside, selected-outside}
 
 -- what a write may change: 126 and 127, ConfigStatus, and what is writable
@@ -38,17 +38,14 @@ module _ (j : ℕ) (U : inRanges writtenRanges j ≡ false) where
   abbrev Same : State → State → Type 0
   Same s t = getD (t .image) j 0 ≡ getD (s .image) j 0
 
-  triggered-off : (t : Trigger) (base v : ℕ) (s : State) → Same s (triggeredState t base s v)
+  triggered-off : (t : Trigger) (set : StagedSet) (v : ℕ) (s : State) → Same s (triggeredState t set s v)
   unfolding triggeredState markedState
-  triggered-off t base v s = pick-has (Same s) (isIgnored t (s .image)) (λ e. refl) (λ e. status-outside _ _ (s .image) .byte j status-beside)
+  triggered-off t set v s = pick-has (Same s) (isIgnored t (s .image)) (λ e. refl) (λ e. status-outside _ _ (s .image) .byte j status-beside)
 
   stored-off : (i v : ℕ) (s : State) → Same s (storedState i v s)
-  unfolding storedState
   stored-off i v s =
-      pick-has (Same s) (eqb i pageSelect) (λ e. selected-outside v (s .image) .byte j page-beside)
-      (λ e. pick-has (Same s) (eqb i applyDPInit) (λ e. triggered-off DpInit stagedSet0 v s)
-      (λ e. pick-has (Same s) (eqb i applyImmediate) (λ e. triggered-off Immediate stagedSet0 v s)
-      (λ e. pick-has (Same s) (writable i) (λ w. getD-set-other (s .image) i j _ 0 (λ q. clash w (rw q at not-writable))) (λ w. refl))))
+      stored-cases (λ u t. Same s t) i v s s (λ e. selected-outside v (s .image) .byte j page-beside) (λ kind set. triggered-off kind set v s)
+      (λ w. getD-set-other (s .image) i j _ 0 (λ q. clash w (rw q at not-writable))) refl
 
   -- no write changes it
   pub bytes-off : (address : ℕ) (vs : List ℕ) (s : State) → Same s (bytesWrittenState address vs s)
@@ -60,17 +57,12 @@ module _ (j : ℕ) (U : inRanges writtenRanges j ≡ false) where
 abbrev SameLine : State → State → Type 0
 SameLine s t = t .working .line ≡ s .working .line
 
-triggered-line : (t : Trigger) (base v : ℕ) (s : State) → SameLine s (triggeredState t base s v)
+triggered-line : (t : Trigger) (set : StagedSet) (v : ℕ) (s : State) → SameLine s (triggeredState t set s v)
 unfolding triggeredState markedState withStages
-triggered-line t base v s = pick-has (SameLine s) (isIgnored t (s .image)) (λ e. refl) (λ e. refl)
+triggered-line t set v s = pick-has (SameLine s) (isIgnored t (s .image)) (λ e. refl) (λ e. refl)
 
 stored-line : (i v : ℕ) (s : State) → SameLine s (storedState i v s)
-unfolding storedState
-stored-line i v s =
-    pick-has (SameLine s) (eqb i pageSelect) (λ e. refl)
-    (λ e. pick-has (SameLine s) (eqb i applyDPInit) (λ e. triggered-line DpInit stagedSet0 v s)
-    (λ e. pick-has (SameLine s) (eqb i applyImmediate) (λ e. triggered-line Immediate stagedSet0 v s)
-    (λ e. pick-has (SameLine s) (writable i) (λ e. refl) (λ e. refl))))
+stored-line i v s = stored-cases (λ u t. SameLine s t) i v s s (λ e. refl) (λ kind set. triggered-line kind set v s) (λ e. refl) refl
 
 pub bytes-line : (address : ℕ) (vs : List ℕ) (s : State) → SameLine s (bytesWrittenState address vs s)
 unfolding bytesWrittenState byteWrittenState

@@ -9,7 +9,7 @@ use native.Mathlib.Omega.{arith}
 use Rattle.bits.specs.Sets.{has, nextIn}
 use Rattle.bits.proofs.Tests.{split, clash}
 use Rattle.bits.proofs.Masks.{mask-ext, next-le, next-bound, next-skips, next-in}
-use Rattle.model.specs.Records.{isInProgress, isPass, isPassing, heldIn, withVerdict}
+use Rattle.model.specs.Records.{isInProgress, isPass, isPassing, heldIn, progressWith, withVerdict}
 use Rattle.model.specs.View.{of, pathId, isUsed, samePath, pathOf}
 use Rattle.model.specs.Work.{writtenSettings}
 use Rattle.model.specs.Sound.{notCopied}
@@ -31,19 +31,21 @@ pub record Turned (q p : Progress) (u : Verdict) : Type 0 where
   pub group : p .group ≡ q .group
   pub held : p .held ≡ q .held
   pub trigger : p .trigger ≡ q .trigger
+  pub set : p .set ≡ q .set
   pub verdict : p .verdict ≡ u
 
 turned : (s : Stage) (p : Progress) (u : Verdict) → withVerdict s u ≡ InProgress p → (q : Progress) × (s ≡ InProgress q) × Turned q p u
 unfolding withVerdict
 turned Idle p u e = let z : _≡_ {A = ℕ} 0 1 = cc in absurd (omega arith)
 turned (InProgress q) p u e =
-    let r : p ≡ record { group = q .group; held = q .held; trigger = q .trigger; verdict = u } = cc in (
+    let r : p ≡ progressWith q u = cc in (
       q,
       refl,
       record {
         group = ap (λ (z : Progress). z .group) r;
         held = ap (λ (z : Progress). z .held) r;
         trigger = ap (λ (z : Progress). z .trigger) r;
+        set = ap (λ (z : Progress). z .set) r;
         verdict = ap (λ (z : Progress). z .verdict) r;
       },
     )
@@ -65,10 +67,11 @@ turned-passing n e = ap (λ z. isPassing (withVerdict z (Pass n))) e
 turned-mate : (q p : Progress) (u : Verdict) (s : Stage) → Turned q p u → Mate q s → Mate p (withVerdict s u)
 unfolding withVerdict
 turned-mate q p u s T M = record {
-  its = record { group = M .its .group; held = M .its .held; trigger = M .its .trigger; verdict = u };
+  its = progressWith (M .its) u;
   stage = ap (λ z. withVerdict z u) (M .stage);
   group = M .group ∙ sym (T .group);
   trigger = M .trigger ∙ sym (T .trigger);
+  set = M .set ∙ sym (T .set);
   verdict = sym (T .verdict);
 }
 

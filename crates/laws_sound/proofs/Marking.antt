@@ -13,12 +13,13 @@ use Rattle.bits.proofs.Loops.{any-none}
 use Rattle.bits.proofs.Masks.{mask-ext, first-in, next-skips}
 use Rattle.model.specs.Statuses.{inProgress}
 use Rattle.model.specs.PathStates.{stateOf, resting}
-use Rattle.model.specs.Records.{stageAt, isInProgress, isPassing, heldIn, anyInProgress}
+use Rattle.model.specs.Records.{stageAt, isInProgress, isPassing, heldIn, anyInProgress, progressOf}
 use Rattle.model.specs.View.{View, of, stateIn, isUsed, samePath, pathOf, fills}
 use Rattle.model.specs.Groups.{inGroup, groupOf}
 use Rattle.model.specs.Verdicts.{deactivated, verdictOf}
 use Rattle.model.specs.Triggers.{isMarked, markedStage, stageAfter}
 use Rattle.model.specs.declared.lane.Trigger.{Trigger}
+use Rattle.model.specs.declared.lane.StagedSet.{StagedSet}
 use Rattle.model.specs.declared.lane.Verdict.the-variants.{Pass}
 use Rattle.model.specs.declared.lane.Progress.{Progress}
 use Rattle.model.specs.declared.lane.Stage.{Stage}
@@ -55,38 +56,41 @@ module _ (v : View) (w : Working) (sel : ℕ) where
   busy-unmarked l b y = split (isMarked v w sel l) (λ e. absurd (clash y (marked-idle l b e))) (λ e. e)
 
 -- the record that a marked lane gets
-record Marked (t : Trigger) (v : View) (sel l : ℕ) (p : Progress) : Type 0 where
+record Marked (t : Trigger) (staged : StagedSet) (v : View) (sel l : ℕ) (p : Progress) : Type 0 where
   pub group : p .group ≡ groupOf v sel l
   pub held : p .held ≡ of (v .staged) l
   pub trigger : p .trigger ≡ t
+  pub set : p .set ≡ staged
   pub verdict : p .verdict ≡ verdictOf t v (groupOf v sel l)
 
-marked-record : (t : Trigger) (v : View) (sel l : ℕ) (p : Progress) → markedStage t v sel l ≡ InProgress p → Marked t v sel l p
+marked-record : (t : Trigger) (set : StagedSet) (v : View) (sel l : ℕ) (p : Progress) → markedStage t set v sel l ≡ InProgress p → Marked t set v sel l p
 unfolding markedStage
-marked-record t v sel l p e =
-    let r : p ≡ record { group = groupOf v sel l; held = of (v .staged) l; trigger = t; verdict = verdictOf t v (groupOf v sel l) } = cc in
+marked-record t set v sel l p e =
+    let r : p ≡ progressOf t set (groupOf v sel l) (of (v .staged) l) (verdictOf t v (groupOf v sel l)) = cc in
     record {
       group = ap (λ (z : Progress). z .group) r;
       held = ap (λ (z : Progress). z .held) r;
       trigger = ap (λ (z : Progress). z .trigger) r;
+      set = ap (λ (z : Progress). z .set) r;
       verdict = ap (λ (z : Progress). z .verdict) r;
     }
 
-marked-held : (t : Trigger) (v : View) (sel l : ℕ) → heldIn (markedStage t v sel l) ≡ of (v .staged) l
+marked-held : (t : Trigger) (set : StagedSet) (v : View) (sel l : ℕ) → heldIn (markedStage t set v sel l) ≡ of (v .staged) l
 unfolding markedStage heldIn
-marked-held t v sel l = refl
+marked-held t set v sel l = refl
 
-marked-in-progress : (t : Trigger) (v : View) (sel l : ℕ) → isInProgress (markedStage t v sel l) ≡ true
+marked-in-progress : (t : Trigger) (set : StagedSet) (v : View) (sel l : ℕ) → isInProgress (markedStage t set v sel l) ≡ true
 unfolding markedStage isInProgress
-marked-in-progress t v sel l = refl
+marked-in-progress t set v sel l = refl
 
-marked-is-mate : (t : Trigger) (v : View) (sel l m : ℕ) (p : Progress) → Marked t v sel l p → groupOf v sel m ≡ groupOf v sel l → Mate p (markedStage t v sel m)
+marked-is-mate : (t : Trigger) (set : StagedSet) (v : View) (sel l m : ℕ) (p : Progress) → Marked t set v sel l p → groupOf v sel m ≡ groupOf v sel l → Mate p (markedStage t set v sel m)
 unfolding markedStage
-marked-is-mate t v sel l m p K e = record {
-  its = record { group = groupOf v sel m; held = of (v .staged) m; trigger = t; verdict = verdictOf t v (groupOf v sel m) };
+marked-is-mate t set v sel l m p K e = record {
+  its = progressOf t set (groupOf v sel m) (of (v .staged) m) (verdictOf t v (groupOf v sel m));
   stage = refl;
   group = e ∙ sym (K .group);
   trigger = sym (K .trigger);
+  set = sym (K .set);
   verdict = ap (verdictOf t v) e ∙ sym (K .verdict);
 }
 
@@ -95,7 +99,7 @@ unfolding stateOf resting pick
 one-rests n e = rw e
 
 -- ---- the trigger
-module _ (t : Trigger) (v : View) (w : Working) (sel : ℕ) (cs pd : ℕ → ℕ)
+module _ (t : Trigger) (set : StagedSet) (v : View) (w : Working) (sel : ℕ) (cs pd : ℕ → ℕ)
     (S : Sound (record { stage = stageAt w; active = v .active; states = v .states; applications = v .applications; status = cs; pending = pd })) where
   abbrev o : Seen
   o = record { stage = stageAt w; active = v .active; states = v .states; applications = v .applications; status = cs; pending = pd }
@@ -180,11 +184,11 @@ module _ (t : Trigger) (v : View) (w : Working) (sel : ℕ) (cs pd : ℕ → ℕ
 
   -- ---- the lanes after it
   module _ (st : ℕ → Stage) (cs′ : ℕ → ℕ)
-      (new : (l : ℕ) → l < 8 → st l ≡ stageAfter t v w sel l)
+      (new : (l : ℕ) → l < 8 → st l ≡ stageAfter t set v w sel l)
       (status-in : (l : ℕ) → l < 8 → isMarked v w sel l ≡ true → cs′ l ≡ inProgress)
       (status-out : (l : ℕ) → l < 8 → isMarked v w sel l ≡ false → cs′ l ≡ cs l)
       (staged-fits : (l : ℕ) → l < 8 → Fits (of (v .staged) l)) where
-    marks : (l : ℕ) → l < 8 → isMarked v w sel l ≡ true → st l ≡ markedStage t v sel l
+    marks : (l : ℕ) → l < 8 → isMarked v w sel l ≡ true → st l ≡ markedStage t set v sel l
     unfolding stageAfter
     marks l b k = new l b ∙ pick-true _ _ k
 
@@ -193,9 +197,9 @@ module _ (t : Trigger) (v : View) (w : Working) (sel : ℕ) (cs pd : ℕ → ℕ
     keeps l b k = new l b ∙ pick-false _ _ k
 
     came : {P : Type 0} (l : ℕ) (p : Progress) → l < 8 → st l ≡ InProgress p
-        → (isMarked v w sel l ≡ true → Marked t v sel l p → P) → (isMarked v w sel l ≡ false → stageAt w l ≡ InProgress p → P) → P
+        → (isMarked v w sel l ≡ true → Marked t set v sel l p → P) → (isMarked v w sel l ≡ false → stageAt w l ≡ InProgress p → P) → P
     came l p b e f h = split (isMarked v w sel l)
-        (λ k. f k (marked-record t v sel l p (sym (marks l b k) ∙ e)))
+        (λ k. f k (marked-record t set v sel l p (sym (marks l b k) ∙ e)))
         (λ k. h k (sym (keeps l b k) ∙ e))
 
     was : (l : ℕ) → l < 8 → isPassing (st l) ≡ false → isPassing (stageAt w l) ≡ false
@@ -213,14 +217,14 @@ module _ (t : Trigger) (v : View) (w : Working) (sel : ℕ) (cs pd : ℕ → ℕ
 
     told-after : (l : ℕ) → l < 8 → eqb (cs′ l) inProgress ≡ isInProgress (st l)
     told-after l b = split (isMarked v w sel l)
-        (λ k. rw (status-in l b k, marks l b k) (sym (marked-in-progress t v sel l)))
+        (λ k. rw (status-in l b k, marks l b k) (sym (marked-in-progress t set v sel l)))
         (λ k. rw (status-out l b k, keeps l b k) (S .told l b))
 
-    new-grouped : (l : ℕ) (p : Progress) → l < 8 → isMarked v w sel l ≡ true → Marked t v sel l p → Grouped o′ l p
+    new-grouped : (l : ℕ) (p : Progress) → l < 8 → isMarked v w sel l ≡ true → Marked t set v sel l p → Grouped o′ l p
     new-grouped l p b k K = record {
       own = rw (K .group) (group-self v sel l b (marked-selected v w sel l k));
       mate = λ m bm i. let j : has (groupOf v sel l) m ≡ true = rw (K .group) at i in
-          rw (marks m bm (marked-mate v w sel l m k bm j)) (marked-is-mate t v sel l m p K (group-same v sel l m bm j));
+          rw (marks m bm (marked-mate v w sel l m k bm j)) (marked-is-mate t set v sel l m p K (group-same v sel l m bm j));
       fits = rw (K .held) (staged-fits l b);
       code = λ c q. fair t v (groupOf v sel l) .code c (sym (K .verdict) ∙ q);
       next = λ n q. let e : n ≡ firstIn (groupOf v sel l) = fair t v (groupOf v sel l) .next n (sym (K .verdict) ∙ q) in
@@ -228,7 +232,7 @@ module _ (t : Trigger) (v : View) (w : Working) (sel : ℕ) (cs pd : ℕ → ℕ
           rw (e, K .group) (omega (arith, f .0), λ h. f .1);
     }
 
-    new-passes : (l n : ℕ) (p : Progress) → l < 8 → isMarked v w sel l ≡ true → Marked t v sel l p → p .verdict ≡ Pass n → Passes o′ (groupOf v sel l) n
+    new-passes : (l n : ℕ) (p : Progress) → l < 8 → isMarked v w sel l ≡ true → Marked t set v sel l p → p .verdict ≡ Pass n → Passes o′ (groupOf v sel l) n
     new-passes l n p b k K q = record {
       purpose = one-fewer _ (of (v .staged)) _ _ _ _ (λ m bm i. (i, sym (holds m bm i))) (staged-path l n b k ev);
       agree = agree l n b k ev;
@@ -245,7 +249,7 @@ module _ (t : Trigger) (v : View) (w : Working) (sel : ℕ) (cs pd : ℕ → ℕ
         at-first = fair t v (groupOf v sel l) .next n ev
 
         holds : (m : ℕ) → m < 8 → has (groupOf v sel l) m ≡ true → heldIn (st m) ≡ of (v .staged) m
-        holds m bm i = ap heldIn (marks m bm (marked-mate v w sel l m k bm i)) ∙ marked-held t v sel m
+        holds m bm i = ap heldIn (marks m bm (marked-mate v w sel l m k bm i)) ∙ marked-held t set v sel m
 
     old-passes : (l n : ℕ) (p : Progress) → l < 8 → stageAt w l ≡ InProgress p → p .verdict ≡ Pass n → Passes o′ (p .group) n
     old-passes l n p b e q =

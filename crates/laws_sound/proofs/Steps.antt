@@ -5,13 +5,12 @@ use mathlib.Core.List.{List, [], _∷_}
 use mathlib.Core.Logic.{inl}
 use Prim.Native.Nat.{ℕ, _+_, suc, _<_}
 use native.Mathlib.Omega.{arith}
-use lib.Dec.{eqb}
 use lib.ListN.{take}
 use borrow.Author.Tests.{ltb-true, not-false}
 use Rattle.bits.specs.Choice.{onlyIf}
 use Rattle.bits.specs.Place.{get}
 use Rattle.bits.proofs.Tests.{split, clash, either-l, pick-true, pick-false, pick-has}
-use Rattle.model.specs.Map.{Image, pageSelect, applyDPInit, applyImmediate, stagedSet0, writable, activeSet, statusAt, pendingAt, setLength, stateBytes, pendingByte, statusBytes}
+use Rattle.model.specs.Map.{Image, stagedBase, activeSet, statusAt, pendingAt, setLength, stateBytes, pendingByte, statusBytes}
 use Rattle.model.specs.Statuses.{inProgress}
 use Rattle.model.specs.Answers.{isDone}
 use Rattle.model.specs.Records.{stageAt, isInProgress, withStages}
@@ -26,13 +25,14 @@ use Rattle.model.specs.Access.{withoutReset, storedState, byteWrittenState, byt
 use Rattle.model.specs.Refusals.{Refusal, firstOf, noSuchLane, isBusy, isUnused, eventRefusals}
 use Rattle.model.specs.Step.{readEffect, eventEffect, doneStep, refusedStep, answeredStep, step}
 use Rattle.model.specs.declared.lane.Trigger.{Trigger}
-use Rattle.model.specs.declared.lane.Trigger.the-variants.{DpInit, Immediate}
+use Rattle.model.specs.declared.lane.StagedSet.{StagedSet}
 use Rattle.model.specs.declared.event.Call.{Call}
 use Rattle.model.specs.declared.event.Call.the-variants.{Write, Read, Work, Hardware, Condition, Sample, Lasting, Module, Line}
 use Rattle.model.specs.declared.event.Event.{Event}
 use Rattle.model.specs.declared.lane.Working.{Working}
 use Rattle.laws_frames.proofs.Outside.{below-range, above-range}
 use Rattle.laws_frames.proofs.Registers.{settings-same, states-same, advertised-below, applications-same, pending-same}
+use Rattle.laws_frames.proofs.Stored.{stored-cases}
 use Rattle.laws_frames.proofs.Changes.{status-outside}
 use Rattle.laws_frames.proofs.Back.{status-in, status-out, read-fits}
 use Rattle.laws_frames.proofs.Stages.{stage-in, stage-kept}
@@ -47,9 +47,9 @@ use Rattle.laws_sound.proofs.PathEvents.{hardware-well}
 
 -- ---- triggers
 
-marked-well : (two : ℕ) (t : Trigger) (base : ℕ) (s : State) (sel : ℕ) → Well two s → Well two (markedState t (viewOf base (s .image)) s sel)
+marked-well : (two : ℕ) (t : Trigger) (set : StagedSet) (s : State) (sel : ℕ) → Well two s → Well two (markedState t set (viewOf (stagedBase set) (s .image)) s sel)
 unfolding markedState viewOf
-marked-well two t base s sel W = record {
+marked-well two t set s sel W = record {
   size = changed .size ∙ W .size;
   low = changed .byte 2 (inl (omega arith)) ∙ W .low;
   sound =
@@ -60,15 +60,15 @@ marked-well two t base s sel W = record {
       )
       (quiet-sound after (after .status) (λ l. get y (pendingAt l)) (λ l b. refl)
       (λ l b. pending-same (s .image) y l b (above-range pendingByte pendingEnd (omega arith) changed))
-      (marking t v (s .working) sel (seenOf s .status) (seenOf s .pending) (W .sound) (after .stage) (after .status)
-      (λ l b. stage-in (s .working) (stageAfter t v (s .working) sel) l b)
+      (marking t set v (s .working) sel (seenOf s .status) (seenOf s .pending) (W .sound) (after .stage) (after .status)
+      (λ l b. stage-in (s .working) (stageAfter t set v (s .working) sel) l b)
       (λ l b k. status-in (s .image) l (W .size) b c inProgress (omega arith) k)
       (λ l b k. status-out (s .image) l (W .size) b c inProgress k)
-      (λ l b. rw (settings-lane base (s .image) l b) (read-fits base (s .image) l))));
+      (λ l b. rw (settings-lane (stagedBase set) (s .image) l b) (read-fits (stagedBase set) (s .image) l))));
 }
   where
     v : View
-    v = viewOf base (s .image)
+    v = viewOf (stagedBase set) (s .image)
 
     c : ℕ → Bool
     c = isMarked v (s .working) sel
@@ -81,7 +81,7 @@ marked-well two t base s sel W = record {
 
     after : Seen
     after = record {
-      stage = stageAt (withStages (s .working) (stageAfter t v (s .working) sel));
+      stage = stageAt (withStages (s .working) (stageAfter t set v (s .working) sel));
       active = seenOf s .active;
       states = seenOf s .states;
       applications = seenOf s .applications;
@@ -89,19 +89,16 @@ marked-well two t base s sel W = record {
       pending = seenOf s .pending;
     }
 
-triggered-well : (two : ℕ) (t : Trigger) (base : ℕ) (s : State) (sel : ℕ) → Well two s → Well two (triggeredState t base s sel)
+triggered-well : (two : ℕ) (t : Trigger) (set : StagedSet) (s : State) (sel : ℕ) → Well two s → Well two (triggeredState t set s sel)
 unfolding triggeredState
-triggered-well two t base s sel W = pick-has (Well two) (isIgnored t (s .image)) (λ e. W) (λ e. marked-well two t base s sel W)
+triggered-well two t set s sel W = pick-has (Well two) (isIgnored t (s .image)) (λ e. W) (λ e. marked-well two t set s sel W)
 
 -- ---- written bytes
 
 pub stored-well : (two i v : ℕ) (s : State) → Well two s → Well two (storedState i v s)
-unfolding storedState
 stored-well two i v s W =
-    pick-has (Well two) (eqb i pageSelect) (λ e. quiet-well two (s .image) _ (s .working) (selected-quiet v (s .image)) W)
-    (λ e. pick-has (Well two) (eqb i applyDPInit) (λ e. triggered-well two DpInit stagedSet0 s v W)
-    (λ e. pick-has (Well two) (eqb i applyImmediate) (λ e. triggered-well two Immediate stagedSet0 s v W)
-    (λ e. pick-has (Well two) (writable i) (λ e. quiet-well two (s .image) _ (s .working) (set-quiet (s .image) i (withoutReset i v) e) W) (λ e. W))))
+    stored-cases (λ u t. Well two t) i v s s (λ e. quiet-well two (s .image) _ (s .working) (selected-quiet v (s .image)) W) (λ kind set. triggered-well two kind set s v W)
+    (λ e. quiet-well two (s .image) _ (s .working) (set-quiet (s .image) i (withoutReset i v) e) W) W
 
 bytes-well : (two address : ℕ) (vs : List ℕ) (s : State) → Well two s → Well two (bytesWrittenState address vs s)
 unfolding bytesWrittenState byteWrittenState

@@ -65,6 +65,7 @@ idle-passing (InProgress p) e = absurd (clash refl e)
 pub record Same-group (p q : Progress) : Type 0 where
   pub group : q .group ≡ p .group
   pub trigger : q .trigger ≡ p .trigger
+  pub set : q .set ≡ p .set
   pub verdict : q .verdict ≡ p .verdict
 
 module _ (o : Seen) (S : Sound o) where
@@ -80,6 +81,7 @@ module _ (o : Seen) (S : Sound o) where
       record {
         group = ap (λ (z : Progress). z .group) (sym r) ∙ M .group;
         trigger = ap (λ (z : Progress). z .trigger) (sym r) ∙ M .trigger;
+        set = ap (λ (z : Progress). z .set) (sym r) ∙ M .set;
         verdict = ap (λ (z : Progress). z .verdict) (sym r) ∙ M .verdict;
       }
 

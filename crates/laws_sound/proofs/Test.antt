@@ -18,10 +18,12 @@ use Rattle.model.specs.Records.{stageAt, isPassing, heldIn, noSettings}
 use Rattle.model.specs.View.{View, viewOf, settingsOf, applicationsOf, of, applicationIn, appSel, pathId, isUsed, samePath, pathOf, fills, settingValues}
 use Rattle.model.specs.State.{State}
 use Rattle.model.specs.Work.{isRelease}
-use Rattle.model.specs.Sound.{statusTells, sameTrigger, sameVerdict, agrees, settingsFit, verdictFits, stageFits, share, makePath, agreeOnState, inWholePath, isAtRest, outsidePassing, heldSettingsOf, hasPurpose, rests, sameSettings, holdsCopied, notCopied, restIsWhole, passingFits, groupFits, laneSound, onFits, isSound}
+use Rattle.model.specs.Sound.{statusTells, sameTrigger, sameSet, sameVerdict, agrees, settingsFit, verdictFits, stageFits, share, makePath, agreeOnState, inWholePath, isAtRest, outsidePassing, heldSettingsOf, hasPurpose, rests, sameSettings, holdsCopied, notCopied, restIsWhole, passingFits, groupFits, laneSound, onFits, isSound}
 use Rattle.model.specs.declared.lane.Settings.{Settings}
 use Rattle.model.specs.declared.lane.Trigger.{Trigger}
 use Rattle.model.specs.declared.lane.Trigger.the-variants.{DpInit, Immediate}
+use Rattle.model.specs.declared.lane.StagedSet.{StagedSet}
+use Rattle.model.specs.declared.lane.StagedSet.the-variants.{Set0, Set1}
 use Rattle.model.specs.declared.lane.Verdict.{Verdict}
 use Rattle.model.specs.declared.lane.Verdict.the-variants.{Pass, Reject}
 use Rattle.model.specs.declared.lane.Progress.{Progress}
@@ -79,6 +81,18 @@ trigger-same : (t : Trigger) → sameTrigger t t ≡ true
 unfolding sameTrigger
 trigger-same DpInit = refl
 trigger-same Immediate = refl
+
+set-eq : (a b : StagedSet) → sameSet a b ≡ true → b ≡ a
+unfolding sameSet
+set-eq Set0 Set0 e = refl
+set-eq Set0 Set1 e = absurd (clash e refl)
+set-eq Set1 Set0 e = absurd (clash e refl)
+set-eq Set1 Set1 e = refl
+
+set-same : (a : StagedSet) → sameSet a a ≡ true
+unfolding sameSet
+set-same Set0 = refl
+set-same Set1 = refl
 
 verdict-eq : (v u : Verdict) → sameVerdict v u ≡ true → u ≡ v
 unfolding sameVerdict
@@ -171,7 +185,8 @@ module _ (x : Image) (w : Working) (l : ℕ) (b : l < 8) where
     stage = refl;
     group = sym (eqb-true _ _ (both-l _ _ e));
     trigger = trigger-eq _ _ (both-l _ _ (both-r _ _ e));
-    verdict = verdict-eq _ _ (both-r _ _ (both-r _ _ e));
+    set = set-eq _ _ (both-l _ _ (both-r _ _ (both-r _ _ e)));
+    verdict = verdict-eq _ _ (both-r _ _ (both-r _ _ (both-r _ _ e)));
   }
 
   code-e : (g c : ℕ) (u : Verdict) → verdictFits g u ≡ true → u ≡ Reject c → (2 ≤ c) × (c ≤ 7)
@@ -302,7 +317,7 @@ module _ (s : State) (S : Sound (seenOf s)) (l : ℕ) (b : l < 8) where
   mate-i : (p : Progress) (t : Stage) → Mate p t → agrees p t ≡ true
   unfolding agrees
   mate-i p t M = rw (M .stage) (both-i (eq-eqb _ _ (sym (M .group)))
-      (both-i (rw (M .trigger) (trigger-same (p .trigger))) (rw (M .verdict) (verdict-same (p .verdict)))))
+      (both-i (rw (M .trigger) (trigger-same (p .trigger))) (both-i (rw (M .set) (set-same (p .set))) (rw (M .verdict) (verdict-same (p .verdict))))))
 
   verdict-i : (g : ℕ) (u : Verdict) → ((c : ℕ) → u ≡ Reject c → (2 ≤ c) × (c ≤ 7)) → ((n : ℕ) → u ≡ Pass n → (n ≤ 8) × (n < 8 → has g n ≡ true))
       → verdictFits g u ≡ true

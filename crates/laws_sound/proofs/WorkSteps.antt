@@ -51,7 +51,7 @@ held-fits s p e f = rw e f
 
 pending-range : (r : Bool) (t : Trigger) (g : ℕ) (x : Image) → SameOutside pendingByte pendingEnd x (pendingAfter r t g x)
 unfolding pendingAfter
-pending-range true t g x = pending-outside (has g) 0 x
+pending-range true t g x = pending-outside _ 0 x
 pending-range false DpInit g x = pending-outside (has g) 1 x
 pending-range false Immediate g x = outside-refl pendingByte pendingEnd x
 

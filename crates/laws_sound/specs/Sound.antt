@@ -52,12 +52,13 @@ stateOn o l = stateIn (o .states) l
 
 -- ---- (b) lanes of one group agree, and the group holds exactly them
 
--- a stage of the same group, trigger, verdict and next lane
+-- a stage of the same group, trigger, staged set, verdict and next lane
 pub record Mate (p : Progress) (s : Stage) : Type 0 where
   pub its : Progress
   pub stage : s ≡ InProgress its
   pub group : its .group ≡ p .group
   pub trigger : its .trigger ≡ p .trigger
+  pub set : its .set ≡ p .set
   pub verdict : its .verdict ≡ p .verdict
 
 pub record Grouped (o : Seen) (l : ℕ) (p : Progress) : Type 0 where

@@ -10,19 +10,19 @@ use lib.ListN.{length, getD, set}
 use borrow.Author.Tests.{eqb-true, ltb-false, leb-true, lt-ltb, le-ltb, le-leb, not-true}
 use Rattle.bits.specs.Choice.{pick, either}
 use Rattle.bits.proofs.Tests.{split, clash, both-l, both-r, both-i, either-cases, either-i-l, either-i-r}
-use Rattle.model.specs.Map.{Image, bankSelect, pageSelect, applyDPInit, applyImmediate, stagedSet0, writable}
+use Rattle.model.specs.Map.{Image, bankSelect, pageSelect}
 use Rattle.model.specs.Records.{stageAt, isInProgress}
-use Rattle.model.specs.View.{View}
 use Rattle.model.specs.State.{State, withImage}
-use Rattle.model.specs.Triggers.{markedStage, triggeredState}
+use Rattle.model.specs.Triggers.{triggeredState}
 use Rattle.model.specs.Pages.{pageStart, selectedStart, indexOf, withPage, selectedImage}
 use Rattle.model.specs.Access.{withoutReset, storedState, byteWrittenState, bytesWrittenState, halfEnd}
 use Rattle.model.specs.declared.lane.Trigger.{Trigger}
-use Rattle.model.specs.declared.lane.Trigger.the-variants.{DpInit, Immediate}
+use Rattle.model.specs.declared.lane.StagedSet.{StagedSet}
 use Rattle.model.specs.declared.lane.Working.{Working}
 use Rattle.model.specs.declared.page.PageStart.{PageStart}
 use Rattle.model.specs.declared.page.PageStart.the-variants.{Unsupported, At}
 use Rattle.model.proofs.Starts.{start-past}
+use Rattle.laws_frames.proofs.Stored.{stored-cases}
 use Rattle.laws_step.specs.Changes.{ChangesOnly, orIn, inBytes, statusSet}
 use Rattle.laws_step.specs.Told.{marks, newlyMarked, amid, writtenBytes, writeSet}
 use Rattle.laws_step.proofs.Frames.{neither, unless, keeps-refl, keeps-set, keeps-then, keeps-more, keeps-left, keeps-right, keeps-byte, lanes-more, lanes-bytes}
@@ -91,31 +91,24 @@ module _ (from to : ℕ) where
     page-by s Unsupported v = keeps-then (select-byte (s .image) bankSelect 0 refl) (select-byte _ pageSelect 0 refl)
     page-by s (At start) v = select-byte (s .image) pageSelect v refl
 
-  new-in-progress : (t : Trigger) (v : View) (selected l : ℕ) → isInProgress (markedStage t v selected l) ≡ true
-  unfolding markedStage isInProgress
-  new-in-progress t v selected l = refl
-
-  trigger-by : (t : Trigger) (s : State) (v : ℕ) → Written from to s (triggeredState t stagedSet0 s v)
-  unfolding writeSet statusSet newlyMarked
-  trigger-by t s v =
+  trigger-by : (t : Trigger) (set : StagedSet) (s : State) (v : ℕ) → Written from to s (triggeredState t set s v)
+  unfolding writeSet statusSet newlyMarked isInProgress
+  trigger-by t set s v =
       record {
-        bits = keeps-right _ (keeps-more (λ j b. lanes-more _ _ _ 4 j b new) (trigger-changes t stagedSet0 s v));
-        records = λ l h e. trigger-keeps-record t stagedSet0 s v l h (unless (λ m. clash (new l h m) e));
+        bits = keeps-right _ (keeps-more (λ j b. lanes-more _ _ _ 4 j b new) (trigger-changes t set s v));
+        records = λ l h e. trigger-keeps-record t set s v l h (unless (λ m. clash (new l h m) e));
       }
     where
-      new : (l : ℕ) → l < 8 → marks t stagedSet0 s v l ≡ true → newlyMarked (s .working) (triggeredState t stagedSet0 s v .working) l ≡ true
-      new l h m = let r = trigger-marks t stagedSet0 s v l h m in both-i (rw (r .0)) (ap isInProgress (r .1) ∙ new-in-progress t _ v l)
+      new : (l : ℕ) → l < 8 → marks t set s v l ≡ true → newlyMarked (s .working) (triggeredState t set s v .working) l ≡ true
+      new l h m = let r = trigger-marks t set s v l h m in both-i (rw (r .0)) (ap isInProgress (r .2 .stage))
 
   byte-stored : (i v : ℕ) (s : State) → from ≤ i → i < to → Written from to s (storedState i v s)
-  unfolding storedState selectedImage inBytes writtenBytes pick
-  byte-stored i v s lo hi = split (eqb i pageSelect)
-      (λ e. let q : i ≡ 127 = eqb-true i 127 e in
-      rw (e, pick) (unmarked s _ (page-by (omega arith) (omega arith) s (pageStart (getD (s .image) bankSelect 0) v) v)))
-      (λ e. split (eqb i applyDPInit) (λ f. rw (e, f, pick) (trigger-by DpInit s v))
-      (λ f. split (eqb i applyImmediate) (λ g. rw (e, f, g, pick) (trigger-by Immediate s v))
-      (λ g. split (writable i)
-      (λ w. rw (e, f, g, w, pick) (unmarked s _ (keeps-set _ (s .image) i (withoutReset i v) (λ b. either-i-l _ _ (both-i w (here i lo hi))))))
-      (λ w. rw (e, f, g, w, pick) (unmarked s (s .image) (keeps-refl _ (s .image)))))))
+  unfolding selectedImage inBytes writtenBytes
+  byte-stored i v s lo hi = stored-cases (λ u t. Written from to s t) i v s s
+      (λ e. let q : i ≡ 127 = eqb-true i 127 e in unmarked s _ (page-by (omega arith) (omega arith) s (pageStart (getD (s .image) bankSelect 0) v) v))
+      (λ kind set. trigger-by kind set s v)
+      (λ w. unmarked s _ (keeps-set _ (s .image) i (withoutReset i v) (λ b. either-i-l _ _ (both-i w (here i lo hi)))))
+      (unmarked s (s .image) (keeps-refl _ (s .image)))
 
 -- ---- the bytes of a write, in address order
 

@@ -12,10 +12,11 @@ use lib.Seq.{getD-set-same}
 use borrow.Author.Tests.{eqb-true, ltb-true, ltb-false, leb-true, lt-ltb, le-ltb}
 use Rattle.bits.specs.Choice.{pick, both, either}
 use Rattle.bits.proofs.Tests.{split, clash, both-l, both-r, either-cases}
-use Rattle.model.specs.Map.{pageSelect, applyDPInit, applyImmediate, inRanges, writable, imageLength}
+use Rattle.model.specs.Map.{pageSelect, inRanges, writable, imageLength}
 use Rattle.model.specs.State.{State, withImage}
 use Rattle.model.specs.Pages.{indexOf}
-use Rattle.model.specs.Access.{withoutReset, storedState, byteWrittenState, bytesWrittenState, halfEnd}
+use Rattle.model.proofs.Triggers.{no-trigger-stored}
+use Rattle.model.specs.Access.{withoutReset, storedBy, storedState, byteWrittenState, bytesWrittenState, halfEnd}
 use Rattle.model.specs.declared.lane.Working.{Working}
 use Rattle.laws_step.specs.Changes.{orIn, inBytes, statusSet}
 use Rattle.laws_step.specs.Told.{amid, writtenBytes, writeSet}
@@ -31,11 +32,10 @@ bytes-append a (u ∷ us) vs s = let e : a + suc (length us) ≡ suc a + length 
 
 -- a writable byte is neither 127 nor a trigger, and keeps what is written to it
 stored-writable : (i v : ℕ) (s : State) → writable i ≡ true → storedState i v s ≡ withImage s (set (s .image) i (withoutReset i v))
-unfolding storedState writable inRanges both either pick
+unfolding storedState storedBy writable inRanges both either pick
 stored-writable i v s w = split (eqb i pageSelect)
     (λ e. absurd (clash w (ap writable (eqb-true i 127 e))))
-    (λ e. split (eqb i applyDPInit) (λ f. absurd (clash w (ap writable (eqb-true i applyDPInit f))))
-    (λ f. split (eqb i applyImmediate) (λ g. absurd (clash w (ap writable (eqb-true i applyImmediate g)))) (λ g. rw (e, f, g, w, pick))))
+    (λ e. rw (e, no-trigger-stored i w, w, pick, storedBy))
 
 -- addresses of one half end at one place
 half-stays : (a b : ℕ) → a ≤ b → b < halfEnd a → halfEnd b ≡ halfEnd a

@@ -10,7 +10,7 @@ use Rattle.bits.specs.Choice.{pick, onlyIf, both, either}
 use Rattle.bits.specs.Loop.{Among}
 use Rattle.bits.specs.Place.{get, digit, covers}
 use Rattle.bits.specs.Sets.{has, nextIn, laneCount, firstIn}
-use Rattle.model.specs.Map.{Image, Range, range, rangeOn, inRanges, writableRanges, clearedRanges, moduleState, moduleStateBits, moduleChangedBit, lowPwrAllowBit, lowPwrRequestBit, deinitAt, commandStatus, commandCompleteBit, commandNumber, replyLength, replyCode, messageBody, page11, on, activeSet, outputDisableAt, squelchForceAt, statusAt, stateAt, bankSelect, pageSelect, writable, clearing, FlagPair, flagPairs, lastingIndex, pendingAt, flagAt, stateChangedFlag, receivedPower, highAlarmLimit, lowAlarmLimit, highWarningLimit, lowWarningLimit, highAlarmFlag, lowAlarmFlag, highWarningFlag, lowWarningFlag}
+use Rattle.model.specs.Map.{Image, stagedBase, Range, range, rangeOn, inRanges, writableRanges, clearedRanges, moduleState, moduleStateBits, moduleChangedBit, lowPwrAllowBit, lowPwrRequestBit, deinitAt, commandStatus, commandCompleteBit, commandNumber, replyLength, replyCode, messageBody, page11, on, activeSet, outputDisableAt, squelchForceAt, statusAt, stateAt, bankSelect, pageSelect, writable, clearing, FlagPair, flagPairs, lastingIndex, pendingAt, flagAt, stateChangedFlag, receivedPower, highAlarmLimit, lowAlarmLimit, highWarningLimit, lowWarningLimit, highAlarmFlag, lowAlarmFlag, highWarningFlag, lowWarningFlag}
 use Rattle.model.specs.PathStates.{codeOf, resting}
 use Rattle.model.specs.Records.{stageAt, onAt, onLanes, isInProgress, heldIn, withVerdict}
 use Rattle.model.specs.View.{viewOf, settingsAt}
@@ -30,9 +30,11 @@ use Rattle.model.specs.declared.command.Command.{Command}
 use Rattle.model.specs.declared.command.CommandStatus.{CommandStatus}
 use Rattle.model.specs.declared.command.CommandStatus.the-variants.{Success, UnknownNumber, WrongCode}
 use Rattle.model.specs.declared.lane.Trigger.{Trigger}
+use Rattle.model.specs.declared.lane.StagedSet.{StagedSet}
 use Rattle.model.specs.declared.lane.Trigger.the-variants.{DpInit, Immediate}
 use Rattle.model.specs.declared.lane.Verdict.the-variants.{Pass}
 use Rattle.model.specs.declared.lane.Progress.{Progress}
+use Rattle.model.specs.declared.lane.Stage.{Stage}
 use Rattle.model.specs.declared.lane.Stage.the-variants.{Idle, InProgress}
 use Rattle.model.specs.declared.lane.Working.{Working}
 use Rattle.model.specs.declared.path.PathState.{PathState}
@@ -73,8 +75,16 @@ unfoldable pub onByte : Working → ℕ → ℕ
 onByte w i = pick (inRanges lastingRanges i) (onLanes w (lastingIndex (128 + (i - page11)))) 0
 
 -- lane l is marked by a trigger
-unfoldable pub marks : Trigger → ℕ → State → ℕ → ℕ → Bool
-marks t base s selected l = both (not (isIgnored t (s .image))) (isMarked (viewOf base (s .image)) (s .working) selected l)
+unfoldable pub marks : Trigger → StagedSet → State → ℕ → ℕ → Bool
+marks t set s selected l = both (not (isIgnored t (s .image))) (isMarked (viewOf (stagedBase set) (s .image)) (s .working) selected l)
+
+-- the stage that it leaves lane l at: in progress, by that trigger, from that staged set, with that set's settings of the lane
+pub record MarkedFrom (t : Trigger) (staged : StagedSet) (s : State) (l : ℕ) (after : Stage) : Type 0 where
+  pub its : Progress
+  pub stage : after ≡ InProgress its
+  pub trigger : its .trigger ≡ t
+  pub set : its .set ≡ staged
+  pub held : its .held ≡ settingsAt (stagedBase staged) (s .image) l
 
 -- ---- writes
 

@@ -1,63 +1,20 @@
 -- Lists of bytes that are alike but for excepted bits: what keeps them so, and what is read the same. Assumes nothing.
-use mathlib.Core.Path.{_≡_, refl, sym, _∙_}
+use mathlib.Core.Path.{_≡_}
 use mathlib.Core.Bool.{Bool, true, false}
 use mathlib.Core.List.{List}
 use Prim.Native.Nat.{ℕ, _≤_, _<_}
-use native.Mathlib.Decide.{ℕ-discrete, decLt}
 use native.Mathlib.Omega.{arith}
-use lib.ListN.{length, getD, set, length-set}
-use lib.Seq.{set-out, getD-set-same, getD-set-other}
+use lib.ListN.{getD}
 use Rattle.bits.specs.Choice.{both}
-use Rattle.bits.specs.Place.{get, put, digit}
-use Rattle.bits.specs.Loop.{each}
-use Rattle.bits.specs.declared.Place.{Place}
+use Rattle.bits.specs.Place.{get}
 use Rattle.bits.proofs.Tests.{split, clash, both-l, both-r, both-i}
-use Rattle.bits.proofs.Number.{number-ext}
-use Rattle.bits.proofs.Places.{length-put, put-same-digit, get-ext}
-use Rattle.bits.proofs.Loops.{each-two, each-ext, any-find, any-none, none-any}
+use Rattle.bits.proofs.Places.{get-ext}
+use Rattle.bits.proofs.Loops.{any-find, any-none, none-any}
 use Rattle.model.specs.Map.{Image, settingAt, activeSet, pendingByte}
-use Rattle.laws_whole.specs.Whole.{isActiveBit, activeBitOf, Alike}
+use Rattle.laws_whole.specs.Whole.{isActiveBit, activeBitOf}
 use Rattle.laws_whole.proofs.Area.{place-active, one-owner, owned-here}
-
--- ---- changes that keep any exception
-module _ (except : ℕ → ℕ → Bool) where
-  pub alike-refl : (x : List ℕ) → Alike except x x
-  alike-refl x = record { size = refl; bits = λ i b h. refl }
-
-  pub alike-put : (x y : List ℕ) (p : Place) (v : ℕ) → Alike except x y → Alike except (put x p v) (put y p v)
-  alike-put x y p v A = record {
-    size = length-put x p v ∙ A .size ∙ sym (length-put y p v);
-    bits = λ i b h. put-same-digit x y p v i b (A .size) (A .bits i b h);
-  }
-
-  pub alike-set : (x y : List ℕ) (j v : ℕ) → Alike except x y → Alike except (set x j v) (set y j v)
-  unfolding digit
-  alike-set x y j v A = record {
-    size = length-set x j v ∙ A .size ∙ sym (length-set y j v);
-    bits = λ i b h. elim (decLt j (length x)) [
-      | no l ↦ rw (set-out x j v (omega arith), set-out y j v (omega (arith, A .size))) (A .bits i b h)
-      | yes l ↦ elim (ℕ-discrete i j) [
-        | yes e ↦ rw (e, getD-set-same x j v 0 l, getD-set-same y j v 0 (omega (arith, A .size)))
-        | no n ↦ rw (getD-set-other x j i v 0 n, getD-set-other y j i v 0 n) (A .bits i b h)
-      ]
-    ];
-  }
-
-  -- the same puts at the lanes that two equal tests pick
-  pub alike-puts : (c d : ℕ → Bool) (p : ℕ → Place) (v n : ℕ) (x y : List ℕ) → ((k : ℕ) → k < n → c k ≡ d k) → Alike except x y
-      → Alike except (each c (λ k z. put z (p k) v) n x) (each d (λ k z. put z (p k) v) n y)
-  alike-puts c d p v n x y e A =
-      rw (← (each-ext c (λ k z. put z (p k) v) d (λ k z. put z (p k) v) n y e (λ k z b t. refl)))
-      (each-two (Alike except) c (λ k z. put z (p k) v) (λ k z. put z (p k) v) n (λ k u z b t. alike-put u z (p k) v) x y A)
-
-  -- a byte with no excepted bit
-  pub alike-byte : (x y : List ℕ) (i : ℕ) → Alike except x y → ((b : ℕ) → except i b ≡ false) → getD x i 0 ≡ getD y i 0
-  unfolding digit
-  alike-byte x y i A h = number-ext (getD x i 0) (getD y i 0) (λ b. A .bits i b (h b))
-
--- fewer bits agreed on
-pub alike-weaken : (c d : ℕ → ℕ → Bool) (x y : List ℕ) → ((i b : ℕ) → d i b ≡ false → c i b ≡ false) → Alike c x y → Alike d x y
-alike-weaken c d x y h A = record { size = A .size; bits = λ i b e. A .bits i b (h i b e) }
+use Rattle.laws_frames.proofs.Alike.{alike-byte, alike-weaken}
+use Rattle.laws_frames.specs.Alike.{Alike}
 
 -- ---- active-setting bits of some lanes
 module _ (c : ℕ → Bool) where

@@ -7,8 +7,9 @@ use native.Mathlib.Omega.{arith}
 use lib.ListN.{length}
 use Rattle.model.specs.Outcome.{laidOver}
 use Rattle.laws.proofs.Unchanged.{laid-front, laid-rest}
-use Rattle.laws_whole.specs.Whole.{Alike, SameBuffer}
-use Rattle.laws_whole.proofs.Agree.{alike-refl}
+use Rattle.laws_whole.specs.Whole.{SameBuffer}
+use Rattle.laws_frames.proofs.Alike.{alike-refl}
+use Rattle.laws_frames.specs.Alike.{Alike}
 
 laid-none : (buffer : List ℕ) → laidOver [] buffer ≡ buffer
 unfolding laidOver

@@ -2,23 +2,20 @@
 use mathlib.Core.Path.{refl, sym, subst}
 use mathlib.Core.List.{List, [], _∷_}
 use Prim.Native.Nat.{ℕ, suc}
-use lib.Dec.{eqb}
-use Rattle.bits.specs.Choice.{pick}
-use Rattle.bits.proofs.Tests.{split}
-use Rattle.model.specs.Map.{Image, pageSelect, applyDPInit, applyImmediate, writable}
+use Rattle.model.specs.Map.{Image}
 use Rattle.model.specs.State.{State, stateWith}
 use Rattle.model.specs.Pages.{indexOf}
 use Rattle.model.specs.Access.{withoutReset, storedState, byteWrittenState, bytesWrittenState}
-use Rattle.model.specs.declared.lane.Trigger.the-variants.{DpInit, Immediate}
 use Rattle.model.specs.declared.lane.Working.{Working}
+use Rattle.laws_frames.proofs.Stored.{stored-cases}
 use Rattle.laws_sound.specs.Sound.{seenOf, Sound}
-use Rattle.laws_whole.proofs.Agree.{alike-set}
 use Rattle.laws_whole.proofs.Pairs.{passed, veiled, Pair, Paired}
 use Rattle.laws_whole.proofs.Kept.{changed, keeps-page, keeps-set}
 use Rattle.laws_whole.proofs.Changes.{alike-selected, place-same}
 use Rattle.laws_whole.proofs.Marking.{triggered-pair}
 use Rattle.laws_sound.proofs.Quiet.{Well}
 use Rattle.laws_sound.proofs.Steps.{stored-well}
+use Rattle.laws_frames.proofs.Alike.{alike-set}
 
 -- a written byte keeps the run sound
 byte-well : (two address v : ℕ) (s : State) → Well two s → Well two (byteWrittenState address v s)
@@ -29,16 +26,11 @@ byte-well two address v s W = stored-well two (indexOf (s .image) address) v s W
 
 module _ (x y : Image) (w : Working) (S : Sound (seenOf (stateWith x w))) (P : Pair x y w) where
   stored-pair : (i v : ℕ) → Sound (seenOf (storedState i v (stateWith x w))) → Paired (storedState i v (stateWith x w)) (storedState i v (stateWith y w))
-  unfolding storedState pick
-  stored-pair i v T = split (eqb i pageSelect)
-      (λ a. rw (a, pick) (changed x y _ _ w P (keeps-page v x) (keeps-page v y) (alike-selected (passed w) x y (P .alike) v)))
-      (λ a. split (eqb i applyDPInit)
-      (λ d. rw (a, d, pick) (triggered-pair x y w S P DpInit v (rw (a, d, pick) at T)))
-      (λ d. split (eqb i applyImmediate)
-      (λ m. rw (a, d, m, pick) (triggered-pair x y w S P Immediate v (rw (a, d, m, pick) at T)))
-      (λ m. split (writable i)
-      (λ t. rw (a, d, m, t, pick) (changed x y _ _ w P (keeps-set x i (withoutReset i v) t) (keeps-set y i (withoutReset i v) t) (alike-set (veiled w) x y i (withoutReset i v) (P .alike))))
-      (λ t. rw (a, d, m, t, pick) (record { working = refl; pair = P })))))
+  stored-pair i v = stored-cases (λ s t. Sound (seenOf s) → Paired s t) i v (stateWith x w) (stateWith y w)
+      (λ e T. changed x y _ _ w P (keeps-page v x) (keeps-page v y) (alike-selected (passed w) x y (P .alike) v))
+      (λ kind set T. triggered-pair x y w S P kind set v T)
+      (λ t T. changed x y _ _ w P (keeps-set x i (withoutReset i v) t) (keeps-set y i (withoutReset i v) t) (alike-set (veiled w) x y i (withoutReset i v) (P .alike)))
+      (λ T. record { working = refl; pair = P })
 
   byte-pair : (address v : ℕ) → Sound (seenOf (byteWrittenState address v (stateWith x w))) → Paired (byteWrittenState address v (stateWith x w)) (byteWrittenState address v (stateWith y w))
   unfolding byteWrittenState

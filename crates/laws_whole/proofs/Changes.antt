@@ -1,127 +1,40 @@
 -- Two images that are alike but for active-setting bits of some lanes are so after every change but the copying. Assumes nothing.
 use mathlib.Core.Path.{_≡_, refl, sym}
-use mathlib.Core.Bool.{Bool, true, false, not}
-use Prim.Native.Nat.{ℕ, _+_, _*_, _/_, _%_, _≤_, _<_}
+use mathlib.Core.Bool.{Bool, false, not}
+use Prim.Native.Nat.{ℕ, _+_, _*_, _≤_, _<_}
 use native.Mathlib.Decide.{decLt}
 use native.Mathlib.Omega.{arith}
 use lib.Dec.{ltb}
-use lib.ListN.{getD, set}
+use lib.ListN.{getD}
 use borrow.Author.Tests.{ltb-true, not-false}
 use Rattle.bits.specs.Choice.{pick, onlyIf, both, either}
 use Rattle.bits.specs.Lane.{laneField}
 use Rattle.bits.specs.Loop.{tab, anyOf, Among}
-use Rattle.bits.specs.Place.{get, put, digit}
-use Rattle.bits.specs.Sets.{has, someIn}
-use Rattle.bits.specs.Word.{putWord}
+use Rattle.bits.specs.Place.{get, digit}
+use Rattle.bits.specs.Sets.{someIn}
 use Rattle.bits.specs.declared.Place.{Place}
 use Rattle.bits.proofs.Tests.{both-l, both-r}
-use Rattle.bits.proofs.Loops.{each-two, any-ext, all-ext}
+use Rattle.bits.proofs.Loops.{any-ext, all-ext}
 use Rattle.bits.proofs.Members.{any-of-none, any-of-ext}
-use Rattle.model.specs.Map.{Image, moduleState, moduleStateBits, moduleChangedBit, moduleControls, lowPwrAllowBit, lowPwrRequestBit, kept, keptRanges, setLength, stateAt, statusAt, pendingAt, flagAt, interruptBit, steppedBit, receivedPower, clearing, activeSet, FlagPair, flagPairs, lastingCount, lastingFlag, highAlarmLimit, lowAlarmLimit, highWarningLimit, lowWarningLimit, page10, imageLength, page9F, commandCompleteBit, commandStatus, firmwareMajor, firmwareMinor, replyLength, replyCode, messageBody}
-use Rattle.model.specs.Records.{onLanes}
-use Rattle.model.specs.Registers.{withStatus, withPending, withPathState, withFlags}
+use Rattle.model.specs.Map.{Image, moduleState, moduleStateBits, moduleControls, lowPwrAllowBit, lowPwrRequestBit, kept, keptRanges, setLength, stateAt, pendingAt, interruptBit, steppedBit, receivedPower, activeSet, FlagPair, flagPairs, highAlarmLimit, lowAlarmLimit, highWarningLimit, lowWarningLimit, page10, firmwareMajor, firmwareMinor}
 use Rattle.model.specs.Triggers.{isIgnored}
-use Rattle.model.specs.PathStates.{codeOf}
-use Rattle.model.specs.Work.{pendingAfter}
-use Rattle.model.specs.Power.{moduleCodeOf, shownModuleState, isLowPower, isDark, holdsDown, moduleEnteredImage, moduleMovedImage, moduleImage}
+use Rattle.model.specs.Power.{shownModuleState, isLowPower, isDark, holdsDown, moduleEnteredImage, moduleMovedImage, moduleImage}
 use Rattle.model.specs.Hardware.{someBit, toDeinit, toReinit, toDeactivate, signalsOf, nextState, enteredImage, movedImage, movedPathImage}
-use Rattle.model.specs.Flags.{raisedImage, sampledImage, sampledOn, shownAgainImage, isUnmasked, interrupts, settledImage, conditionImage, power}
-use Rattle.model.specs.Pages.{withPage, pageStart, selectedStart, indexOf, selectedImage}
-use Rattle.model.specs.Commands.{lengthOf, replyOf, statusCode, statusOf, withReplyHeader, withReply, repliedImage, completedImage, commandImage}
-use Rattle.model.specs.Access.{runsCommand, clearedImage}
-use Rattle.model.specs.declared.command.CommandStatus.{CommandStatus}
-use Rattle.model.specs.declared.command.CommandStatus.the-variants.{Success, UnknownNumber, WrongCode}
+use Rattle.model.specs.Flags.{sampledImage, sampledOn, isUnmasked, interrupts, settledImage, power}
+use Rattle.model.specs.Pages.{pageStart, selectedStart, indexOf, selectedImage}
+use Rattle.model.specs.Commands.{commandImage}
+use Rattle.model.specs.Access.{runsCommand}
 use Rattle.model.specs.declared.lane.Trigger.{Trigger}
 use Rattle.model.specs.declared.lane.Trigger.the-variants.{DpInit, Immediate}
-use Rattle.model.specs.declared.lane.Working.{Working}
-use Rattle.model.specs.declared.page.PageStart.{PageStart}
-use Rattle.model.specs.declared.page.PageStart.the-variants.{Unsupported, At}
 use Rattle.model.specs.declared.path.PathState.{PathState}
-use Rattle.model.specs.declared.power.ModuleState.{ModuleState}
 use Rattle.laws_frames.proofs.Outside.{get-same}
 use Rattle.laws_frames.proofs.Registers.{pending-same, state-same, word-same, lane-to}
-use Rattle.laws_frames.specs.Frames.{SameWithin}
 use Rattle.laws_frames.proofs.Ranges.{apartFrom, not-in}
 use Rattle.laws_frames.proofs.Starting.{SameKept}
-use Rattle.laws_frames.proofs.Commands.{sum-ext, status-of-same, reply-same}
-use Rattle.laws_whole.specs.Whole.{activeBitOf, Alike}
-use Rattle.laws_whole.proofs.Agree.{alike-put, alike-set, alike-puts, alike-below, alike-above}
-
--- ---- whatever may differ
-module _ (except : ℕ → ℕ → Bool) where
-  alike-only : (t : Bool) (f : Image → Image) (x y : Image) → (Alike except x y → Alike except (f x) (f y)) → Alike except x y → Alike except (onlyIf t f x) (onlyIf t f y)
-  unfolding onlyIf
-  alike-only true f x y h A = h A
-  alike-only false f x y h A = A
-
-  pub alike-status : (c d : ℕ → Bool) (code : ℕ) (x y : Image) → ((l : ℕ) → l < 8 → c l ≡ d l) → Alike except x y → Alike except (withStatus c code x) (withStatus d code y)
-  unfolding withStatus
-  alike-status c d code x y e A = alike-puts except c d statusAt code 8 x y e A
-
-  alike-pending : (c : ℕ → Bool) (v : ℕ) (x y : Image) → Alike except x y → Alike except (withPending c v x) (withPending c v y)
-  unfolding withPending
-  alike-pending c v x y A = alike-puts except c c pendingAt v 8 x y (λ l b. refl) A
-
-  pub alike-after : (r : Bool) (t : Trigger) (g : ℕ) (x y : Image) → Alike except x y → Alike except (pendingAfter r t g x) (pendingAfter r t g y)
-  unfolding pendingAfter
-  alike-after true t g x y A = alike-pending (has g) 0 x y A
-  alike-after false DpInit g x y A = alike-pending (has g) 1 x y A
-  alike-after false Immediate g x y A = A
-
-  alike-flags : (address g : ℕ) (x y : Image) → Alike except x y → Alike except (withFlags address g x) (withFlags address g y)
-  unfolding withFlags
-  alike-flags address g x y A = alike-puts except (has g) (has g) (flagAt address) 1 8 x y (λ l b. refl) A
-
-  pub alike-condition : (flag mask : ℕ) (x y : Image) → Alike except x y → Alike except (conditionImage flag mask x) (conditionImage flag mask y)
-  unfolding conditionImage
-  alike-condition flag mask x y A = alike-flags flag mask x y A
-
-  alike-state : (g : ℕ) (to : PathState) (x y : Image) → Alike except x y → Alike except (withPathState g to x) (withPathState g to y)
-  unfolding withPathState
-  alike-state g to x y A = alike-puts except (has g) (has g) stateAt (codeOf to) 8 x y (λ l b. refl) A
-
-  alike-entered : (g : ℕ) (from to : PathState) (x y : Image) → Alike except x y → Alike except (enteredImage g from to x) (enteredImage g from to y)
-  unfolding enteredImage
-  alike-entered g from to x y A = alike-only _ _ _ _ (alike-flags 134 g _ _) (alike-only _ _ _ _ (alike-pending (has g) 0 _ _) (alike-state g to x y A))
-
-  alike-raised : (test : Bool) (flag l : ℕ) (x y : Image) → Alike except x y → Alike except (raisedImage test flag l x) (raisedImage test flag l y)
-  unfolding raisedImage
-  alike-raised test flag l x y A = alike-only test (λ z. put z (flagAt flag l) 1) x y (alike-put except x y (flagAt flag l) 1) A
-
-  alike-word : (at v : ℕ) (x y : Image) → Alike except x y → Alike except (putWord 2 x at v) (putWord 2 y at v)
-  unfolding putWord
-  alike-word at v x y A = alike-set except _ _ (at + 1) (v % 256) (alike-set except x y (at + 0) (v / 256 % 256) A)
-
-  alike-page : (place : PageStart) (page : ℕ) (x y : Image) → Alike except x y → Alike except (withPage place page x) (withPage place page y)
-  alike-page Unsupported page x y A = alike-set except _ _ 127 0 (alike-set except x y 126 0 A)
-  alike-page (At start) page x y A = alike-set except x y 127 page A
-
-  pub alike-cleared : (i n : ℕ) (x y : Image) → Alike except x y → Alike except (clearedImage x i n) (clearedImage y i n)
-  unfolding clearedImage
-  alike-cleared i n x y A = each-two (Alike except) (λ k. clearing (i + k)) (λ k z. set z (i + k) 0) (λ k z. set z (i + k) 0) n
-      (λ k u z b t. alike-set except u z (i + k) 0) x y A
-
-  pub alike-shown : (w : Working) (i n : ℕ) (x y : Image) → Alike except x y → Alike except (shownAgainImage w i n x) (shownAgainImage w i n y)
-  unfolding shownAgainImage
-  alike-shown w i n x y A = each-two (Alike except) _ _ _ lastingCount (λ k u z b t. alike-flags (lastingFlag k) (onLanes w k) u z) x y A
-
-  alike-reply-header : (n code : ℕ) (x y : Image) → Alike except x y → Alike except (withReplyHeader n code x) (withReplyHeader n code y)
-  unfolding withReplyHeader
-  alike-reply-header n code x y A = alike-set except _ _ replyCode code (alike-set except x y replyLength n A)
-
-  alike-reply : (n : ℕ) (f g : ℕ → ℕ) (x y : Image) → ((k : ℕ) → g k ≡ f k) → Alike except x y → Alike except (withReply n f x) (withReply n g y)
-  unfolding withReply
-  alike-reply n f g x y same A = rw (sum-ext n g f (λ k l. same k))
-      (each-two (Alike except) (λ k. true) (λ k z. set z (messageBody + k) (f k)) (λ k z. set z (messageBody + k) (g k)) n
-      (λ k u z l t B. rw (same k) (alike-set except u z (messageBody + k) (f k) B)) _ _ (alike-reply-header n _ x y A))
-
-  alike-completed : (status : CommandStatus) (x y : Image) → Alike except x y → Alike except (completedImage status x) (completedImage status y)
-  unfolding completedImage
-  alike-completed status x y A = alike-put except _ _ commandCompleteBit 1 (alike-set except x y commandStatus (statusCode status) A)
-
-  alike-module-entered : (to : ModuleState) (p : Bool) (x y : Image) → Alike except x y → Alike except (moduleEnteredImage to p x) (moduleEnteredImage to p y)
-  unfolding moduleEnteredImage
-  alike-module-entered to p x y A = alike-only _ _ _ _ (alike-put except _ _ moduleChangedBit 1) (alike-put except x y moduleStateBits (moduleCodeOf to) A)
+use Rattle.laws_whole.specs.Whole.{activeBitOf}
+use Rattle.laws_whole.proofs.Agree.{alike-below, alike-above}
+use Rattle.laws_frames.proofs.Alike.{alike-command, alike-entered, alike-module-entered, alike-only, alike-page, alike-put, alike-raised, alike-word}
+use Rattle.laws_frames.specs.Alike.{Alike}
 
 -- ---- active-setting bits of the lanes of c may differ: everything else that is looked at is the same
 
@@ -167,19 +80,8 @@ module _ (c : ℕ → Bool) (x y : Image) (A : Alike (activeBitOf c) x y) where
   alike-settled = rw interrupts-same (alike-put (activeBitOf c) x y interruptBit (pick (interrupts x) 0 1) A)
 
   -- a command looks at page 9Fh and at lower 39 and 40
-  page-9f-same : SameWithin page9F imageLength x y
-  page-9f-same i a b = sym (alike-above c x y A i (omega arith))
-
-  alike-replied : (status : CommandStatus) → Alike (activeBitOf c) (repliedImage status x) (repliedImage status y)
-  unfolding repliedImage
-  alike-replied (Success m) = alike-reply (activeBitOf c) (lengthOf m) (replyOf x m) (replyOf y m) x y
-      (λ k. reply-same x y m k (low firmwareMajor (omega arith)) (low firmwareMinor (omega arith))) A
-  alike-replied UnknownNumber = alike-reply-header (activeBitOf c) 0 0 x y A
-  alike-replied WrongCode = alike-reply-header (activeBitOf c) 0 0 x y A
-
-  alike-command : Alike (activeBitOf c) (commandImage x) (commandImage y)
-  unfolding commandImage
-  alike-command = rw (status-of-same x y page-9f-same) (alike-completed (activeBitOf c) (statusOf x) _ _ (alike-replied (statusOf x)))
+  command-same : Alike (activeBitOf c) (commandImage x) (commandImage y)
+  command-same = alike-command (activeBitOf c) x y (λ i a b. sym (alike-above c x y A i (omega arith))) (low firmwareMajor (omega arith)) (low firmwareMinor (omega arith)) A
 
   runs-same : (address n : ℕ) → runsCommand address n y ≡ runsCommand address n x
   unfolding runsCommand selectedStart
@@ -187,7 +89,7 @@ module _ (c : ℕ → Bool) (x y : Image) (A : Alike (activeBitOf c) x y) where
 
   pub alike-ended : (address n : ℕ)
       → Alike (activeBitOf c) (onlyIf (runsCommand address n x) commandImage x) (onlyIf (runsCommand address n y) commandImage y)
-  alike-ended address n = rw (runs-same address n) (alike-only (activeBitOf c) (runsCommand address n x) commandImage x y (λ B. alike-command) A)
+  alike-ended address n = rw (runs-same address n) (alike-only (activeBitOf c) (runsCommand address n x) commandImage x y (λ B. command-same) A)
 
   limit-same : (at : ℕ) → at + 2 ≤ activeSet → power y at ≡ power x at
   limit-same at h = word-same 2 at x y (λ i a b. low i (omega arith))

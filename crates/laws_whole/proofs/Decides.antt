@@ -17,6 +17,7 @@ use Rattle.model.specs.Verdicts.{otherAppSel, crossing, tooLate, wrongState, un
 use Rattle.model.specs.Triggers.{isMarked, markedStage, stageAfter}
 use Rattle.model.specs.declared.lane.Settings.{Settings}
 use Rattle.model.specs.declared.lane.Trigger.{Trigger}
+use Rattle.model.specs.declared.lane.StagedSet.{StagedSet}
 use Rattle.model.specs.declared.lane.Trigger.the-variants.{DpInit, Immediate}
 use Rattle.model.specs.declared.lane.Working.{Working}
 use Rattle.model.specs.declared.application.Lookup.{Lookup}
@@ -89,15 +90,15 @@ module _ (v : View) (late : List Settings) (w : Working) (selected : ℕ)
     verdict-same t l b i = let r = first-in 8 g 0 l (omega arith) b i in
         rw (release-same (r .0) (r .1), apply-same _ t _ _)
 
-  pub stage-same : (t : Trigger) (l : ℕ) → l < 8 → stageAfter t v w selected l ≡ stageAfter t (swap v late) w selected l
+  pub stage-same : (t : Trigger) (set : StagedSet) (l : ℕ) → l < 8 → stageAfter t set v w selected l ≡ stageAfter t set (swap v late) w selected l
   unfolding stageAfter markedStage
-  stage-same t l b = split (isMarked v w selected l)
+  stage-same t set l b = split (isMarked v w selected l)
       (λ e. pick-true _ _ e ∙ marked-alike e ∙ sym (pick-true _ _ (sym (marked-same l b) ∙ e)))
       (λ e. pick-false _ _ e ∙ sym (pick-false _ _ (sym (marked-same l b) ∙ e)))
     where
       free : isMarked v w selected l ≡ true → (m : ℕ) → m < 8 → has (groupOf v selected l) m ≡ true → isPassing (stageAt w m) ≡ false
       free e m bm i = idle-passing (stageAt w m) (marked-free v w selected l m e bm i)
 
-      marked-alike : isMarked v w selected l ≡ true → markedStage t v selected l ≡ markedStage t (swap v late) selected l
+      marked-alike : isMarked v w selected l ≡ true → markedStage t set v selected l ≡ markedStage t set (swap v late) selected l
       marked-alike e = let i : has (groupOf v selected l) l ≡ true = marked-own v w selected l b e in
           rw (← (group-same l b (free e l b i))) (rw (verdict-same (groupOf v selected l) (free e) t l b i))

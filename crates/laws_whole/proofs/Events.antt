@@ -13,7 +13,7 @@ use Rattle.bits.specs.Number.{field}
 use Rattle.bits.specs.Place.{get, digit}
 use Rattle.bits.proofs.Tests.{split, either-l}
 use Rattle.bits.proofs.Loops.{tab-at, tab-past, length-tab}
-use Rattle.model.specs.Map.{Image, imageLength, moduleControls, applyDPInit, applyImmediate, stateAt}
+use Rattle.model.specs.Map.{Image, imageLength, moduleControls, triggerAt, isTrigger, stateAt}
 use Rattle.model.specs.Answers.{isDone}
 use Rattle.model.specs.PathStates.{stateOf}
 use Rattle.model.specs.Records.{idleWith, stageAt, isInProgress, withLine}
@@ -36,16 +36,18 @@ use Rattle.laws_frames.proofs.Stages.{idle-stage, stage-kept}
 use Rattle.laws_frames.proofs.Starting.{same-start}
 use Rattle.laws_sound.specs.Sound.{seenOf, Sound}
 use Rattle.laws_sound.proofs.Steps.{not-refused}
-use Rattle.laws_whole.specs.Whole.{hidden, Alike, hiddenRead}
-use Rattle.laws_whole.proofs.Agree.{alike-refl, of-none, none-of}
+use Rattle.laws_whole.specs.Whole.{hidden, hiddenRead}
+use Rattle.laws_whole.proofs.Agree.{of-none, none-of}
 use Rattle.laws_whole.proofs.Sees.{activeOf}
 use Rattle.laws_sound.proofs.Stranger.{not-idle, idle-passing}
 use Rattle.laws_whole.proofs.Pairs.{passed, passing-busy, veiled, Pair, Paired, same-active, same-lanes}
 use Rattle.laws_whole.proofs.Kept.{keeps-refl, keeps-ended, keeps-module, changed, waits-keeps, keeps-settled, keeps-sample, keeps-condition, keeps-hardware, keeps-read, changed-records}
-use Rattle.laws_whole.proofs.Changes.{low, kept-same, down-same, alike-module, alike-ended, alike-condition, alike-cleared, alike-shown, alike-settled, alike-sampled, sampled-same, alike-moved, place-same, state-read}
+use Rattle.laws_whole.proofs.Changes.{low, kept-same, down-same, alike-module, alike-ended, alike-settled, alike-sampled, sampled-same, alike-moved, place-same, state-read}
 use Rattle.laws_sound.proofs.Quiet.{Well}
 use Rattle.laws_whole.proofs.Bytes.{bytes-pair}
 use Rattle.laws_whole.proofs.Working.{Carries, leaves-pair, work-carries}
+use Rattle.laws_frames.proofs.Alike.{alike-cleared, alike-condition, alike-refl, alike-shown}
+use Rattle.laws_frames.specs.Alike.{Alike}
 
 -- what is not hidden is not veiled
 pub hidden-veiled : (w : Working) (i b : ℕ) → hidden w i b ≡ false → veiled w i b ≡ false
@@ -140,7 +142,7 @@ module _ (x y : Image) (w : Working) (S : Sound (seenOf (stateWith x w))) (P : P
   -- ---- reads
   shown-alike : (i b : ℕ) → veiled w i b ≡ false → field (shownByte x i) b 1 ≡ field (shownByte y i) b 1
   unfolding shownByte withoutReset pick digit
-  shown-alike i b h = split (either (eqb i applyDPInit) (eqb i applyImmediate))
+  shown-alike i b h = split (isTrigger (triggerAt i))
       (λ e. rw (e, pick))
       (λ e. split (eqb i moduleControls)
       (λ m. rw (e, m, pick, low (passed w) x y (P .alike) i (omega (arith, eqb-true i moduleControls m))))

@@ -22,12 +22,13 @@ use Rattle.model.specs.declared.lane.Trigger.{Trigger}
 use Rattle.model.specs.declared.lane.Trigger.the-variants.{DpInit, Immediate}
 use Rattle.model.specs.declared.lane.Working.{Working}
 use Rattle.model.specs.State.{stateWith}
-use Rattle.laws_whole.specs.Whole.{activeBitOf, Alike}
+use Rattle.laws_whole.specs.Whole.{activeBitOf}
 use Rattle.laws_frames.proofs.Registers.{advertised-below, settings-same, applications-same}
 use Rattle.laws_frames.proofs.Changes.{status-outside, pending-outside, off-advertised, hardware-off}
 use Rattle.laws_sound.proofs.Quiet.{Quiet, advertised-kept, lane-kept, set-quiet, selected-quiet, settled-quiet, module-quiet, sampled-quiet, condition-quiet, cleared-quiet, shown-quiet, command-quiet}
 use Rattle.laws_frames.specs.Frames.{SameOutside, SameWithin, SameAdvertised, SameOffPath}
 use Rattle.laws_whole.proofs.Pairs.{veiled, Waits, Pair, Paired}
+use Rattle.laws_frames.specs.Alike.{Alike}
 
 -- from y to z: the length, what the module advertises and the active settings' bytes are as they were
 pub record Keeps (y z : Image) : Type 0 where

@@ -21,9 +21,10 @@ use Rattle.laws_frames.proofs.Registers.{settings-at-same}
 use Rattle.laws_sound.specs.Sound.{seenOf, Sound}
 use Rattle.laws_sound.proofs.Paths.{same-together, fills-first}
 use Rattle.laws_sound.proofs.Stranger.{Pass-of, passing-of, idle-passing, stranger, home-free}
-use Rattle.laws_whole.specs.Whole.{activeBitOf, Alike}
+use Rattle.laws_whole.specs.Whole.{activeBitOf}
 use Rattle.laws_whole.proofs.Agree.{alike-setting}
 use Rattle.laws_whole.proofs.Sees.{activeOf, active-at}
+use Rattle.laws_frames.specs.Alike.{Alike}
 
 pub passing-busy : (s : Stage) → isPassing s ≡ true → isInProgress s ≡ true
 passing-busy s p = split (isInProgress s) (λ e. e) (λ e. absurd (clash p (idle-passing s e)))

@@ -20,10 +20,12 @@ use Rattle.model.specs.declared.lane.Working.{Working}
 use Rattle.laws_sound.proofs.Quiet.{Well}
 use Rattle.laws_sound.proofs.Steps.{step-well}
 use Rattle.laws_sound.proofs.Starting.{start-well}
-use Rattle.laws_whole.specs.Whole.{hidden, Alike, SameState, hiddenRead, Reached, begun, then}
-use Rattle.laws_whole.proofs.Agree.{alike-refl, alike-weaken, of-none}
+use Rattle.laws_whole.specs.Whole.{hidden, SameState, hiddenRead, Reached, begun, then}
+use Rattle.laws_whole.proofs.Agree.{of-none}
 use Rattle.laws_whole.proofs.Pairs.{passed, passing-busy, veiled, Pair, Paired}
 use Rattle.laws_whole.proofs.Events.{hidden-veiled, fresh-pair, settled-pair, refusals-same, carried-pair}
+use Rattle.laws_frames.proofs.Alike.{alike-refl, alike-weaken}
+use Rattle.laws_frames.specs.Alike.{Alike}
 
 -- ---- one step of both runs, given that the run's states are sound
 

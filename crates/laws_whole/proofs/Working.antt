@@ -13,7 +13,7 @@ use Rattle.bits.proofs.Places.{digit-ext}
 use Rattle.bits.proofs.Masks.{first-in}
 use Rattle.model.specs.Map.{Image, activeSet, settingAt}
 use Rattle.model.specs.Statuses.{success}
-use Rattle.model.specs.Records.{stageAt, isPass, isPassing, heldIn, withVerdict, freedWorking, advancedWorking}
+use Rattle.model.specs.Records.{stageAt, isPass, isPassing, heldIn, progressWith, withVerdict, freedWorking, advancedWorking}
 use Rattle.model.specs.View.{of, settingsAt}
 use Rattle.model.specs.State.{State, stateWith}
 use Rattle.model.specs.Effect.{Effect, onState}
@@ -31,15 +31,17 @@ use Rattle.laws_frames.proofs.Changes.{copy-outside}
 use Rattle.laws_frames.proofs.Stages.{freed-in, freed-out, advanced-in, advanced-out}
 use Rattle.laws_sound.specs.Sound.{seenOf, Sound}
 use Rattle.laws_sound.proofs.Stranger.{not-idle, is-passing, is-rejected}
-use Rattle.laws_whole.specs.Whole.{activeBitOf, Alike}
+use Rattle.laws_whole.specs.Whole.{activeBitOf}
 use Rattle.laws_frames.specs.Frames.{Fits}
 use Rattle.laws_whole.proofs.Area.{active-place}
-use Rattle.laws_whole.proofs.Agree.{alike-refl, alike-lanes, of-none, none-of, of-find}
+use Rattle.laws_whole.proofs.Agree.{alike-lanes, of-none, none-of, of-find}
 use Rattle.laws_whole.proofs.Sees.{activeOf, active-at}
 use Rattle.laws_whole.proofs.Pairs.{passed, veiled, Waits, Pair, Paired}
 use Rattle.laws_whole.proofs.Kept.{keeps-trans, keeps-status, keeps-after, waits-keeps}
-use Rattle.laws_whole.proofs.Changes.{alike-status, alike-after, state-read}
+use Rattle.laws_whole.proofs.Changes.{state-read}
 use Rattle.laws_whole.proofs.Copies.{copy-bit, group-bit, group-outside, group-in, group-out, setting-read}
+use Rattle.laws_frames.proofs.Alike.{alike-after, alike-refl, alike-status}
+use Rattle.laws_frames.specs.Alike.{Alike}
 
 -- what an event leaves in the two runs: paired states, one mask, and bytes alike but for the excepted bits
 pub record Carries (except : ℕ → ℕ → Bool) (c d : Effect) : Type 0 where
@@ -96,7 +98,7 @@ module _ (x y : Image) (w : Working) (S : Sound (seenOf (stateWith x w))) (P : P
     unfolding withVerdict
     copied-waits k m j q bm f u = split (has (p .group) m)
         (λ i. let t = S .grouped l p b e .mate m bm i in
-        let r : InProgress (record { group = t .its .group; held = t .its .held; trigger = t .its .trigger; verdict = Pass k }) ≡ InProgress q =
+        let r : InProgress (progressWith (t .its) (Pass k)) ≡ InProgress q =
         sym (advanced-in w (p .group) k m bm i ∙ rw (t .stage)) ∙ f in
         let a : t .its .group ≡ q .group = cc in
         rw (← a) (P .waits m n (t .its) bm (t .stage) (t .verdict ∙ v)))

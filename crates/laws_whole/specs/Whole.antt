@@ -7,7 +7,7 @@ use mathlib.Core.List.{List}
 use lib.ListN.{length, take, drop}
 use Rattle.bits.specs.Choice.{both}
 use Rattle.bits.specs.Loop.{anyBelow}
-use Rattle.bits.specs.Place.{digit, covers}
+use Rattle.bits.specs.Place.{covers}
 use Rattle.model.specs.Map.{Image, settingCount, settingAt, activeSet}
 use Rattle.bits.specs.Sets.{laneCount}
 use Rattle.model.specs.Records.{noSettings, stageAt, isInProgress}
@@ -21,6 +21,7 @@ use Rattle.model.specs.Outcome.{Outcome, startOutcome, stepOutcome}
 use Rattle.model.specs.declared.event.Call.{Call}
 use Rattle.model.specs.declared.event.Event.{Event}
 use Rattle.model.specs.declared.lane.Working.{Working}
+use Rattle.laws_frames.specs.Alike.{Alike}
 use Rattle.laws.specs.Calls.{Called}
 use Rattle.laws_sound.specs.Reached.{through}
 
@@ -49,11 +50,6 @@ unfoldable pub hidden : Working → ℕ → ℕ → Bool
 hidden w = activeBitOf (λ l. isInProgress (stageAt w l))
 
 -- ---- the same but for them
-
--- lists of bytes of equal length that agree in every bit that is not excepted
-pub record Alike (except : ℕ → ℕ → Bool) (xs ys : List ℕ) : Type 0 where
-  pub size : length xs ≡ length ys
-  pub bits : (i b : ℕ) → except i b ≡ false → digit xs i b ≡ digit ys i b
 
 -- no lane is in progress
 abbrev pub NoneInProgress : Working → Type 0

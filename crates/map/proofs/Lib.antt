@@ -1,2 +1,3 @@
 -- What the tests of the register map compute.
 pub mod Ranges
+pub mod Triggers

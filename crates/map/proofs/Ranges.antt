@@ -36,15 +36,17 @@ either-comm false false = refl
 past : (p a r : Bool) → either p (either a r) ≡ either a (either p r)
 past p a r = sym (either-assoc p a r) ∙ ap (λ t. either t r) (either-comm p a) ∙ either-assoc a p r
 
--- four tests from the last to the first
-last-first : (a b c d : Bool) → either a (either b (either c (either d false))) ≡ either d (either c (either b (either a false)))
-last-first a b c d = rw (either-none d, either-none a)
-    (either-comm a (either b (either c d)) ∙ ap (λ t. either t a) (either-comm b (either c d)) ∙ ap (λ t. either (either t b) a) (either-comm c d)
-    ∙ either-assoc (either d c) b a ∙ either-assoc d c (either b a))
+-- six tests from the last to the first
+last-first : (a b c d e f : Bool)
+    → either a (either b (either c (either d (either e (either f false))))) ≡ either f (either e (either d (either c (either b (either a false)))))
+last-first a b c d e f = rw (either-none f, either-none a)
+    (either-comm a _ ∙ ap (λ t. either t a) (either-comm b _ ∙ ap (λ t. either t b) (either-comm c _ ∙ ap (λ t. either t c) (either-comm d _ ∙ ap (λ t. either t d) (either-comm e f))))
+    ∙ either-assoc (either (either (either f e) d) c) b a ∙ either-assoc (either (either f e) d) c (either b a) ∙ either-assoc (either f e) d (either c (either b a))
+    ∙ either-assoc f e (either d (either c (either b a))))
 
--- the first of nine tests goes to the end, and the three that stood there turn round
-pub reordered : (p z a b c d g f e : Bool)
-    → either p (either z (either a (either b (either c (either d (either g (either f (either e false))))))))
-    ≡ either z (either a (either b (either c (either d (either e (either f (either g (either p false))))))))
-reordered p z a b c d g f e =
-    past p z _ ∙ ap (either z) (past p a _ ∙ ap (either a) (past p b _ ∙ ap (either b) (past p c _ ∙ ap (either c) (past p d _ ∙ ap (either d) (last-first p g f e)))))
+-- the first of eleven tests goes to the end, and the five that stood there turn round
+pub reordered : (p z a b c d g k h f e : Bool)
+    → either p (either z (either a (either b (either c (either d (either g (either k (either h (either f (either e false))))))))))
+    ≡ either z (either a (either b (either c (either d (either e (either f (either h (either k (either g (either p false))))))))))
+reordered p z a b c d g k h f e =
+    past p z _ ∙ ap (either z) (past p a _ ∙ ap (either a) (past p b _ ∙ ap (either b) (past p c _ ∙ ap (either c) (past p d _ ∙ ap (either d) (last-first p g k h f e)))))

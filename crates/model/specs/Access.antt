@@ -8,13 +8,14 @@ use Rattle.bits.specs.Choice.{pick, onlyIf, both, either}
 use Rattle.bits.specs.Loop.{each, tab}
 use Rattle.bits.specs.Number.{field, withField}
 use Rattle.model.specs.Numbers.{Byte, Bytes, Count, Index, Address}
-use Rattle.model.specs.Map.{Image, page9F, runAddress, moduleControls, softwareResetBit, pageSelect, applyDPInit, applyImmediate, stagedSet0, writable, clearing}
+use Rattle.model.specs.Map.{Image, page9F, runAddress, moduleControls, softwareResetBit, pageSelect, triggerAt, isTrigger, writable, clearing}
 use Rattle.model.specs.State.{State, withImage}
 use Rattle.model.specs.Triggers.{triggeredState}
 use Rattle.model.specs.Pages.{selectedStart, indexOf, selectedImage}
 use Rattle.model.specs.Commands.{commandImage}
 use Rattle.model.specs.Start.{resetState}
-use Rattle.model.specs.declared.lane.Trigger.the-variants.{DpInit, Immediate}
+use Rattle.model.specs.declared.lane.TriggerPlace.{TriggerPlace}
+use Rattle.model.specs.declared.lane.TriggerPlace.the-variants.{NoTrigger, Applies}
 
 -- lower 26.3, SoftwareReset, is never stored and reads as 0 (02 Req 04)
 unfoldable pub withoutReset : Index → Byte → Byte
@@ -23,12 +24,12 @@ withoutReset i v = pick (eqb i moduleControls) (withField v (softwareResetBit .s
 -- ---- writing
 
 -- a byte written to an index of the image: the page select and the triggers act, writable bytes are stored, the others ignore it
+unfoldable pub storedBy : TriggerPlace → Index → Byte → State → State
+storedBy NoTrigger i v s = pick (writable i) (withImage s (set (s .image) i (withoutReset i v))) s
+storedBy (Applies a) i v s = triggeredState (a .trigger) (a .set) s v
+
 unfoldable pub storedState : Index → Byte → State → State
-storedState i v s =
-    pick (eqb i pageSelect) (withImage s (selectedImage v (s .image)))
-    (pick (eqb i applyDPInit) (triggeredState DpInit stagedSet0 s v)
-    (pick (eqb i applyImmediate) (triggeredState Immediate stagedSet0 s v)
-    (pick (writable i) (withImage s (set (s .image) i (withoutReset i v))) s)))
+storedState i v s = pick (eqb i pageSelect) (withImage s (selectedImage v (s .image))) (storedBy (triggerAt i) i v s)
 
 -- a byte written to an address
 unfoldable pub byteWrittenState : Address → Byte → State → State
@@ -63,7 +64,7 @@ endedState address bytes n s =
 
 -- what a read shows of a byte: the triggers read as 0
 unfoldable pub shownByte : Image → Index → Byte
-shownByte x i = pick (either (eqb i applyDPInit) (eqb i applyImmediate)) 0 (withoutReset i (getD x i 0))
+shownByte x i = pick (isTrigger (triggerAt i)) 0 (withoutReset i (getD x i 0))
 
 -- the values of the n bytes from index i on, taken before any is cleared
 unfoldable pub takenBytes : Image → Index → Count → Bytes

@@ -1,16 +1,22 @@
 -- The register map: every address once, by name (01 "The module we ship"; 002 chapter 8). A register is named by its index in the image; where a host names
 -- it by its address on a page, its name ends in Flag.
 use Prim.Native.Nat.{_+_, _-_, _*_, _/_}
-use mathlib.Core.Bool.{Bool, false}
+use mathlib.Core.Bool.{Bool, true, false}
 use Prim.Native.String.{String}
 use mathlib.Core.List.{List, [], _∷_, map}
-use lib.Dec.{leb}
+use lib.Dec.{eqb, leb}
 use lib.ListN.{length, getD}
-use Rattle.bits.specs.Choice.{both, either}
+use Rattle.bits.specs.Choice.{pick, both, either}
 use Rattle.bits.specs.Lane.{laneField}
 use Rattle.bits.specs.Loop.{tab}
 use Rattle.bits.specs.Sets.{Lane}
 use Rattle.model.specs.Numbers.{Byte, Bytes, Count, Index, Address, FlagIndex, SettingIndex}
+use Rattle.model.specs.declared.lane.Trigger.the-variants.{DpInit, Immediate}
+use Rattle.model.specs.declared.lane.StagedSet.{StagedSet}
+use Rattle.model.specs.declared.lane.StagedSet.the-variants.{Set0, Set1}
+use Rattle.model.specs.declared.lane.Apply.{Apply}
+use Rattle.model.specs.declared.lane.TriggerPlace.{TriggerPlace}
+use Rattle.model.specs.declared.lane.TriggerPlace.the-variants.{NoTrigger, Applies}
 use Rattle.bits.specs.declared.Place.{Place}
 
 -- the lent image (01, 02 Req 01): lower memory and six pages of 128 bytes
@@ -165,19 +171,58 @@ outputDisableAt l = laneField (on page10 130) 1 l
 abbrev pub squelchForceAt : Lane → Place
 squelchForceAt l = laneField (on page10 132) 1 l
 
--- 143, 144: the triggers of Staged Control Set 0 (002 table 8-70)
-abbrev pub applyDPInit : Index
-applyDPInit = on page10 143
-
-abbrev pub applyImmediate : Index
-applyImmediate = on page10 144
-
 -- 145 on: Staged Control Set 0 (002 tables 8-71 to 8-74)
 abbrev pub stagedAddress : Address
 stagedAddress = 145
 
 abbrev pub stagedSet0 : Index
 stagedSet0 = on page10 stagedAddress
+
+-- 180 on: Staged Control Set 1, laid out as set 0, 35 addresses above it (02 Req 11; 002 tables 8-77 to 8-80)
+abbrev pub stagedSet1 : Index
+stagedSet1 = on page10 (stagedAddress + 35)
+
+abbrev pub stagedBase : StagedSet → Index
+stagedBase Set0 = stagedSet0
+stagedBase Set1 = stagedSet1
+
+-- 143, 144 and 178, 179: the triggers of the two sets (002 tables 8-70 and 8-76)
+abbrev pub applyDPInit0 : Index
+applyDPInit0 = on page10 143
+
+abbrev pub applyImmediate0 : Index
+applyImmediate0 = on page10 144
+
+abbrev pub applyDPInit1 : Index
+applyDPInit1 = on page10 178
+
+abbrev pub applyImmediate1 : Index
+applyImmediate1 = on page10 179
+
+-- a trigger: its place, and what a write there asks for
+pub record TriggerRow : Type 0 where
+  pub place : Index
+  pub apply : Apply
+
+abbrev pub triggers : List TriggerRow
+triggers =
+    record { place = applyDPInit0; apply = record { trigger = DpInit; set = Set0 } }
+    ∷ record { place = applyImmediate0; apply = record { trigger = Immediate; set = Set0 } }
+    ∷ record { place = applyDPInit1; apply = record { trigger = DpInit; set = Set1 } }
+    ∷ record { place = applyImmediate1; apply = record { trigger = Immediate; set = Set1 } }
+    ∷ []
+
+-- what a place is to the triggers of a list, and to the module's
+unfoldable pub findTrigger : List TriggerRow → Index → TriggerPlace
+findTrigger [] i = NoTrigger
+findTrigger (row ∷ rows) i = pick (eqb i (row .place)) (Applies (row .apply)) (findTrigger rows i)
+
+unfoldable pub triggerAt : Index → TriggerPlace
+triggerAt i = findTrigger triggers i
+
+unfoldable pub isTrigger : TriggerPlace → Bool
+isTrigger NoTrigger = false
+isTrigger (Applies a) = true
 
 -- 213 on: the masks, one for each flag byte, 79 above it (01; 002 table 8-81)
 abbrev pub flagMasks : Index
@@ -255,7 +300,7 @@ statusBytes = on page11 202
 abbrev pub statusAt : Lane → Place
 statusAt l = laneField statusBytes 4 l
 
--- 206 on: the active settings, laid out as the staged set, 61 addresses above it (01 "Work step"; 002 tables 8-93 to 8-95)
+-- 206 on: the active settings, laid out as the staged sets, 61 addresses above set 0 and 26 above set 1 (01 "Work step"; 002 tables 8-93 to 8-95)
 abbrev pub activeSet : Index
 activeSet = on page11 (stagedAddress + 61)
 
@@ -359,7 +404,7 @@ inRanges (r ∷ rs) i = either (both (leb (r .from) i) (leb i (r .to))) (inRange
 abbrev pub writableRanges : List Range
 writableRanges =
     range moduleControls moduleControls ∷ range 31 36 ∷ range bankSelect bankSelect ∷ rangeOn page10 128 132 ∷ rangeOn page10 137 139 ∷ rangeOn page10 145 153
-    ∷ rangeOn page10 156 173 ∷ rangeOn page10 213 232 ∷ rangeOn page9F 128 255 ∷ []
+    ∷ rangeOn page10 156 173 ∷ rangeOn page10 180 188 ∷ rangeOn page10 191 208 ∷ rangeOn page10 213 232 ∷ rangeOn page9F 128 255 ∷ []
 
 unfoldable pub writable : Index → Bool
 writable = inRanges writableRanges

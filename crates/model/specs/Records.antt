@@ -9,8 +9,11 @@ use Rattle.bits.specs.Number.{withField}
 use Rattle.bits.specs.Sets.{Lane, LaneSet, laneCount, has, maskOf}
 use Rattle.model.specs.Numbers.{FlagIndex, OnBits}
 use Rattle.model.specs.declared.lane.Settings.{Settings}
+use Rattle.model.specs.declared.lane.Trigger.{Trigger}
+use Rattle.model.specs.declared.lane.StagedSet.{StagedSet}
 use Rattle.model.specs.declared.lane.Verdict.{Verdict}
 use Rattle.model.specs.declared.lane.Verdict.the-variants.{Pass, Reject}
+use Rattle.model.specs.declared.lane.Progress.{Progress}
 use Rattle.model.specs.declared.lane.Stage.{Stage}
 use Rattle.model.specs.declared.lane.Stage.the-variants.{Idle, InProgress}
 use Rattle.model.specs.declared.lane.LaneRecord.{LaneRecord}
@@ -99,10 +102,18 @@ withFlagOn k isOn bits = withField bits k 1 (boolByte isOn)
 unfoldable pub freedWorking : Working → LaneSet → Working
 freedWorking w g = withStages w (λ l. pick (has g l) Idle (stageAt w l))
 
+-- the record of an Apply that begins
+abbrev pub progressOf : Trigger → StagedSet → LaneSet → Settings → Verdict → Progress
+progressOf t set g held v = record { group = g; held = held; trigger = t; set = set; verdict = v }
+
+-- .. with another verdict
+abbrev pub progressWith : Progress → Verdict → Progress
+progressWith p v = progressOf (p .trigger) (p .set) (p .group) (p .held) v
+
 -- the stage with another verdict; an idle one stays
 unfoldable pub withVerdict : Stage → Verdict → Stage
 withVerdict Idle v = Idle
-withVerdict (InProgress p) v = InProgress (record { group = p .group; held = p .held; trigger = p .trigger; verdict = v })
+withVerdict (InProgress p) v = InProgress (progressWith p v)
 
 -- the group's next lane is n
 unfoldable pub advancedWorking : Working → LaneSet → Lane → Working

@@ -20,6 +20,8 @@ use Rattle.model.specs.Work.{writtenSettings, isRelease}
 use Rattle.model.specs.declared.lane.Settings.{Settings}
 use Rattle.model.specs.declared.lane.Trigger.{Trigger}
 use Rattle.model.specs.declared.lane.Trigger.the-variants.{DpInit, Immediate}
+use Rattle.model.specs.declared.lane.StagedSet.{StagedSet}
+use Rattle.model.specs.declared.lane.StagedSet.the-variants.{Set0, Set1}
 use Rattle.model.specs.declared.lane.Verdict.{Verdict}
 use Rattle.model.specs.declared.lane.Verdict.the-variants.{Pass, Reject}
 use Rattle.model.specs.declared.lane.Progress.{Progress}
@@ -47,11 +49,18 @@ sameVerdict (Pass n) (Reject d) = false
 sameVerdict (Reject c) (Pass m) = false
 sameVerdict (Reject c) (Reject d) = eqb c d
 
--- a lane of the group: in progress with the same group, trigger, verdict and next lane
+unfoldable pub sameSet : StagedSet → StagedSet → Bool
+sameSet Set0 Set0 = true
+sameSet Set0 Set1 = false
+sameSet Set1 Set0 = false
+sameSet Set1 Set1 = true
+
+-- a lane of the group: in progress with the same group, trigger, staged set, verdict and next lane
 unfoldable pub agrees : Progress → Stage → Bool
 agrees p Idle = false
 agrees p (InProgress q) =
-    both (eqb (p .group) (q .group)) (both (sameTrigger (p .trigger) (q .trigger)) (sameVerdict (p .verdict) (q .verdict)))
+    both (eqb (p .group) (q .group))
+    (both (sameTrigger (p .trigger) (q .trigger)) (both (sameSet (p .set) (q .set)) (sameVerdict (p .verdict) (q .verdict))))
 
 -- held values fit their fields
 unfoldable pub settingsFit : Settings → Bool

@@ -4,10 +4,9 @@ use lib.Dec.{eqb}
 use Rattle.bits.specs.Choice.{pick, both}
 use Rattle.bits.specs.Place.{get}
 use Rattle.bits.specs.Sets.{Lane, LaneSet, has}
-use Rattle.model.specs.Numbers.{Index}
-use Rattle.model.specs.Map.{Image, steppedBit}
+use Rattle.model.specs.Map.{Image, steppedBit, stagedBase}
 use Rattle.model.specs.Statuses.{inProgress}
-use Rattle.model.specs.Records.{stageAt, anyInProgress, withStages}
+use Rattle.model.specs.Records.{stageAt, anyInProgress, withStages, progressOf}
 use Rattle.model.specs.State.{State}
 use Rattle.model.specs.Registers.{withStatus}
 use Rattle.model.specs.View.{View, viewOf, of}
@@ -15,6 +14,7 @@ use Rattle.model.specs.Groups.{groupOf}
 use Rattle.model.specs.Verdicts.{verdictOf}
 use Rattle.model.specs.declared.lane.Trigger.{Trigger}
 use Rattle.model.specs.declared.lane.Trigger.the-variants.{DpInit, Immediate}
+use Rattle.model.specs.declared.lane.StagedSet.{StagedSet}
 use Rattle.model.specs.declared.lane.Stage.{Stage}
 use Rattle.model.specs.declared.lane.Stage.the-variants.{InProgress}
 use Rattle.model.specs.declared.lane.Working.{Working}
@@ -23,24 +23,19 @@ use Rattle.model.specs.declared.lane.Working.{Working}
 unfoldable pub isMarked : View → Working → LaneSet → Lane → Bool
 isMarked v w selected l = both (has selected l) (not (anyInProgress w (has (groupOf v selected l))))
 
--- its record: the group, the settings staged now, and the verdict, fixed at once
-unfoldable pub markedStage : Trigger → View → LaneSet → Lane → Stage
-markedStage t v selected l =
-    InProgress (record {
-      group = groupOf v selected l;
-      held = of (v .staged) l;
-      trigger = t;
-      verdict = verdictOf t v (groupOf v selected l);
-    })
+-- its record: the staged set, the group, the settings staged now, and the verdict, fixed at once
+unfoldable pub markedStage : Trigger → StagedSet → View → LaneSet → Lane → Stage
+markedStage t set v selected l =
+    InProgress (progressOf t set (groupOf v selected l) (of (v .staged) l) (verdictOf t v (groupOf v selected l)))
 
-unfoldable pub stageAfter : Trigger → View → Working → LaneSet → Lane → Stage
-stageAfter t v w selected l = pick (isMarked v w selected l) (markedStage t v selected l) (stageAt w l)
+unfoldable pub stageAfter : Trigger → StagedSet → View → Working → LaneSet → Lane → Stage
+stageAfter t set v w selected l = pick (isMarked v w selected l) (markedStage t set v selected l) (stageAt w l)
 
-unfoldable pub markedState : Trigger → View → State → LaneSet → State
-markedState t v s selected =
+unfoldable pub markedState : Trigger → StagedSet → View → State → LaneSet → State
+markedState t set v s selected =
     record {
       image = withStatus (isMarked v (s .working) selected) inProgress (s .image);
-      working = withStages (s .working) (stageAfter t v (s .working) selected);
+      working = withStages (s .working) (stageAfter t set v (s .working) selected);
     }
 
 -- ApplyImmediate does nothing where the module is configured in steps only
@@ -48,6 +43,6 @@ unfoldable pub isIgnored : Trigger → Image → Bool
 isIgnored DpInit x = false
 isIgnored Immediate x = eqb (get x steppedBit) 1
 
--- a trigger of the staged set at a base
-unfoldable pub triggeredState : Trigger → Index → State → LaneSet → State
-triggeredState t base s selected = pick (isIgnored t (s .image)) s (markedState t (viewOf base (s .image)) s selected)
+-- a trigger of a staged set, which looks at that set alone of the two
+unfoldable pub triggeredState : Trigger → StagedSet → State → LaneSet → State
+triggeredState t set s selected = pick (isIgnored t (s .image)) s (markedState t set (viewOf (stagedBase set) (s .image)) s selected)

@@ -1,5 +1,6 @@
 // Lanes: the record that each keeps of its Apply, and the working state that holds the eight of them and the low-power line.
 ghost use mathlib.Core.Path.{_≡_};
+ghost use Rattle.model.specs.Map.{stagedBase};
 ghost use Rattle.model.specs.Records.{idleRecord, idleWorking};
 
 // The settings of one lane, a number for each of its fields.
@@ -20,17 +21,52 @@ pub enum Trigger {
     Immediate,
 }
 
+// Which staged set an Apply is of.
+pub enum StagedSet {
+    Set0,
+    Set1,
+}
+
+impl StagedSet {
+    const SET_0: usize = 529;
+
+    const SET_1: usize = 564;
+
+    // Where the set begins in the image.
+    pub fn base(self) -> usize
+        ensures { λ r. ⌜ r ≡ stagedBase self ⌝ }
+    {
+        match self {
+            StagedSet::Set0 => StagedSet::SET_0,
+            StagedSet::Set1 => StagedSet::SET_1,
+        }
+    }
+}
+
+// What a write to a trigger's place asks for: which trigger it is, and of which staged set.
+pub struct Apply {
+    pub trigger: Trigger,
+    pub set: StagedSet,
+}
+
+// What a place of the image is to triggers: none's, or one's.
+pub enum TriggerPlace {
+    NoTrigger,
+    Applies(Apply),
+}
+
 // What was decided at the trigger: a pass with the lane to be copied next (the lane count where none is left), or a rejection with its code.
 pub enum Verdict {
     Pass(u8),
     Reject(u8),
 }
 
-// An Apply under way on a lane: the lanes of its group, the settings held for this lane, the trigger and the verdict.
+// An Apply under way on a lane: the lanes of its group, the settings held for this lane, the trigger, the staged set and the verdict.
 pub struct Progress {
     pub group: u8,
     pub held: Settings,
     pub trigger: Trigger,
+    pub set: StagedSet,
     pub verdict: Verdict,
 }
 

@@ -1,48 +1,41 @@
 -- The bytes of a read, taken one by one. Assumes nothing.
 use mathlib.Core.Path.{_≡_, refl, sym, ap, _∙_}
-use mathlib.Core.Bool.{true, false, _||_}
+use mathlib.Core.Bool.{false}
 use mathlib.Core.List.{List, [], _∷_}
-use Prim.Native.Nat.{ℕ, zero, suc, _+_, _≤_, _<_}
+use Prim.Native.Nat.{ℕ, zero, suc, _+_, _<_}
 use native.Mathlib.Nat.{le-of-suc-le-suc, not-suc-le-zero}
 use native.Mathlib.Numerals.{add-one}
 use native.Mathlib.Omega.{arith}
-use borrow.Author.Tests.{ne-eqb, ltb-false, leb-false}
-use lib.Dec.{eqb, leb, ltb}
+use borrow.Author.Tests.{ne-eqb, leb-false}
 use lib.ListN.{length, getD, set}
-use Rattle.bits.specs.Choice.{pick, both, either}
+use Rattle.bits.specs.Choice.{pick}
 use Rattle.bits.specs.Loop.{tab}
-use Rattle.bits.proofs.Tests.{split, either-l, either-r, pick-true, pick-false, or-either}
-use Rattle.model.specs.Map.{Image, moduleControls, applyDPInit, applyImmediate}
+use Rattle.bits.proofs.Tests.{either-l, either-r}
+use Rattle.model.specs.Map.{Image, moduleControls, triggerAt, isTrigger}
 use Rattle.model.specs.Access.{withoutReset, shownByte, takenBytes}
 use Rattle.model.specs.Outcome.{laidOver}
+use Rattle.model.specs.declared.lane.Apply.{Apply}
+use Rattle.model.specs.declared.lane.TriggerPlace.the-variants.{NoTrigger, Applies}
+use Rattle.map.proofs.Triggers.{clear-place}
 use Rattle.pages_window.specs.Hidden.{meetsHidden}
 
 -- ---- what is shown of a byte
 
--- .. by whether it is a trigger
-pub shown-trigger : (x : Image) (i : ℕ) → (eqb i applyDPInit || eqb i applyImmediate) ≡ true → shownByte x i ≡ 0
-unfolding shownByte
-shown-trigger x i e = pick-true _ _ (sym (or-either (eqb i applyDPInit) (eqb i applyImmediate)) ∙ e)
+-- .. by what its place is to the triggers
+pub shown-trigger : (x : Image) (i : ℕ) (a : Apply) → triggerAt i ≡ Applies a → shownByte x i ≡ 0
+unfolding shownByte isTrigger pick
+shown-trigger x i a e = rw (e, isTrigger, pick)
 
-pub shown-byte : (x : Image) (i : ℕ) → (eqb i applyDPInit || eqb i applyImmediate) ≡ false → shownByte x i ≡ withoutReset i (getD x i 0)
-unfolding shownByte
-shown-byte x i e = pick-false _ _ (sym (or-either (eqb i applyDPInit) (eqb i applyImmediate)) ∙ e)
-
--- no byte of a run that ends before a or begins after b is one of a to b
-misses : (a b i n k c : ℕ) → both (leb i b) (ltb a (i + n)) ≡ false → k < n → a ≤ c → c ≤ b → eqb (i + k) c ≡ false
-unfolding both
-misses a b i n k c e h l m = split (leb i b)
-    (λ t. ne-eqb (i + k) c (omega (arith, ltb-false a (i + n) (rw (t, both) at e))))
-    (λ t. ne-eqb (i + k) c (omega (arith, leb-false i b t)))
+pub shown-byte : (x : Image) (i : ℕ) → triggerAt i ≡ NoTrigger → shownByte x i ≡ withoutReset i (getD x i 0)
+unfolding shownByte isTrigger pick
+shown-byte x i e = rw (e, isTrigger, pick)
 
 -- of bytes that meet nothing hidden each is shown as it is stored
 shown-stored : (x : Image) (i n k : ℕ) → meetsHidden i n ≡ false → k < n → shownByte x (i + k) ≡ getD x (i + k) 0
-unfolding meetsHidden shownByte withoutReset pick either
+unfolding meetsHidden withoutReset pick
 shown-stored x i n k e h =
     let late : moduleControls < i = leb-false i moduleControls (either-l _ _ e) in
-    let apart = misses applyDPInit applyImmediate i n k in
-    let t = either-r (leb i moduleControls) _ e in
-    rw (apart applyDPInit t h (omega arith) (omega arith), apart applyImmediate t h (omega arith) (omega arith), ne-eqb (i + k) moduleControls (omega arith))
+    shown-byte x (i + k) (clear-place i n k (either-r _ _ e) h) ∙ rw (ne-eqb (i + k) moduleControls (omega arith), pick)
 
 -- ---- the bytes laid over the front of a buffer
 

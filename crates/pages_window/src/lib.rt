@@ -6,6 +6,7 @@ ghost use lib.ListN.{length};
 ghost use Rattle.model.specs.Access.{shownByte, takenBytes};
 ghost use Rattle.model.specs.Outcome.{laidOver};
 ghost use Rattle.pages_window.specs.Hidden.{meetsHidden};
+use model::lane::TriggerPlace;
 
 pub struct Window<'a> {
     pub image: &'a [u8],
@@ -18,10 +19,10 @@ fn shown(image: &[u8], i: usize) -> u8
     ensures { λ r. ⌜ r ≡ shownByte (now (image .entry)) i ⌝ }
 {
     let v = image[i];
-    if (i == map::APPLY_DP_INIT) | (i == map::APPLY_IMMEDIATE) {
-        return 0;
+    match map::trigger_at(i) {
+        TriggerPlace::NoTrigger => map::without_reset(i, v),
+        TriggerPlace::Applies(_) => 0,
     }
-    map::without_reset(i, v)
 }
 
 // Whether one of n bytes from i on may show otherwise than it is stored: lower 26, and the triggers.
@@ -29,7 +30,7 @@ fn meets_hidden(i: usize, n: usize) -> bool
     requires { ⌜ i + n < 2 ^ 64 ⌝ }
     ensures { λ r. ⌜ r ≡ meetsHidden i n ⌝ }
 {
-    (i <= map::MODULE_CONTROLS) | ((i <= map::APPLY_IMMEDIATE) & (map::APPLY_DP_INIT < i + n))
+    (i <= map::MODULE_CONTROLS) | map::meets_triggers(i, n)
 }
 
 // Bytes from an index on, each as a read shows it, into the front of the buffer.

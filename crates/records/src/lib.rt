@@ -142,10 +142,12 @@ fn with_verdict(stage: Stage, verdict: Verdict) -> Stage
         Stage::InProgress(p) => {
             let held = p.held;
             let trigger = p.trigger;
+            let set = p.set;
             Stage::InProgress(Progress {
                 group: p.group,
                 held,
                 trigger,
+                set,
                 verdict,
             })
         }

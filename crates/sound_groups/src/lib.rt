@@ -5,13 +5,15 @@ ghost use lib.Dec.{ltb};
 ghost use Rattle.bits.specs.Choice.{both};
 ghost use Rattle.bits.specs.Sets.{has, laneCount, everyIn};
 ghost use Rattle.model.specs.Records.{stageAt};
-ghost use Rattle.model.specs.Sound.{sameTrigger, sameVerdict, agrees, settingsFit, verdictFits, stageFits};
+ghost use Rattle.model.specs.Sound.{sameTrigger, sameSet, sameVerdict, agrees, settingsFit, verdictFits, stageFits};
 ghost use Rattle.model.specs.declared.lane.Trigger.the-variants.{DpInit};
+ghost use Rattle.model.specs.declared.lane.StagedSet.the-variants.{Set0};
 ghost use Rattle.model.specs.declared.lane.Verdict.the-variants.{Pass, Reject};
 use model::lane::LaneRecord;
 use model::lane::Progress;
 use model::lane::Settings;
 use model::lane::Stage;
+use model::lane::StagedSet;
 use model::lane::Trigger;
 use model::lane::Verdict;
 use model::lane::Working;
@@ -33,6 +35,25 @@ fn same_trigger(a: Trigger, b: Trigger) -> bool
     match a {
         Trigger::DpInit => is_init(b),
         Trigger::Immediate => !is_init(b),
+    }
+}
+
+// Whether a staged set is set 0.
+fn is_set_0(set: StagedSet) -> bool
+    ensures { λ r. ⌜ r ≡ sameSet Set0 set ⌝ }
+{
+    match set {
+        StagedSet::Set0 => true,
+        StagedSet::Set1 => false,
+    }
+}
+
+fn same_set(a: StagedSet, b: StagedSet) -> bool
+    ensures { λ r. ⌜ r ≡ sameSet a b ⌝ }
+{
+    match a {
+        StagedSet::Set0 => is_set_0(b),
+        StagedSet::Set1 => !is_set_0(b),
     }
 }
 
@@ -65,7 +86,7 @@ fn same_verdict(a: Verdict, b: Verdict) -> bool
     }
 }
 
-// Whether a stage is in progress with the same group, trigger, verdict and next lane.
+// Whether a stage is in progress with the same group, trigger, staged set, verdict and next lane.
 fn agrees(p: Progress, stage: Stage) -> bool
     ensures { λ r. ⌜ r ≡ agrees p stage ⌝ }
 {
@@ -73,11 +94,14 @@ fn agrees(p: Progress, stage: Stage) -> bool
         Stage::Idle => false,
         Stage::InProgress(q) => {
             let trigger = p.trigger;
+            let set = p.set;
             let verdict = p.verdict;
             let other_trigger = q.trigger;
+            let other_set = q.set;
             let other_verdict = q.verdict;
             (p.group == q.group)
-                & (same_trigger(trigger, other_trigger) & same_verdict(verdict, other_verdict))
+                & (same_trigger(trigger, other_trigger)
+                    & (same_set(set, other_set) & same_verdict(verdict, other_verdict)))
         }
     }
 }

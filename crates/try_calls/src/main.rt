@@ -5,6 +5,7 @@ use libc::STDOUT_FILENO;
 use model::lane::Progress;
 use model::lane::Settings;
 use model::lane::Stage;
+use model::lane::StagedSet;
 use model::lane::Trigger;
 use model::lane::Verdict;
 use model::lane::Working;
@@ -90,6 +91,7 @@ fn lane_0(verdict: Verdict) -> Working {
         group: 1,
         held,
         trigger: Trigger::DpInit,
+        set: StagedSet::Set0,
         verdict,
     });
     let mut w = Working::idle();

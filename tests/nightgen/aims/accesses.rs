@@ -22,6 +22,8 @@ impl Maker {
             self.flag_registers()
         } else if self.wild && self.rng.percent(6) {
             self.module_registers()
+        } else if self.wild && self.rng.percent(8) {
+            self.registers_of_set_1()
         } else {
             self.usual_registers()
         };
@@ -146,7 +148,7 @@ impl Maker {
             0 => self.rng.byte(),
             1 => 120 + self.rng.byte() % 16,
             2 => 248 + self.rng.byte() % 8,
-            _ => self.rng.pick(&[0, 1, 31, 127, 128, 143, 144, 250, 255]),
+            _ => self.rng.pick(&[0, 1, 31, 127, 128, 143, 144, 178, 179, 250, 255]),
         };
         match self.rng.below(12) {
             0..=4 => {

@@ -2,18 +2,17 @@
 
 use super::{write_event, Maker};
 use crate::rules::descriptor_at;
+use crate::staged::address;
 use second::lanes::LaneSet;
 use second::module::Event;
 use second::registers::*;
 
 impl Maker {
-    /// Stages one or more paths and triggers them.
+    /// Stages one or more paths in a set and triggers them.
     pub(super) fn provision(&mut self) -> Event {
         let mut errand = vec![self.page(0x10)];
-        let mut config = [0u8; 8];
-        for lane in 0..8 {
-            config[lane as usize] = self.state.staged(lane);
-        }
+        let set = self.set();
+        let mut config = self.staged_configs(set);
         let mut touched = 0u8;
         for _ in 0..1 + self.rng.below(3) {
             let lanes = self.stage_path(&mut config);
@@ -42,25 +41,32 @@ impl Maker {
                     if immediate || self.rng.percent(40) { selected } else { 0 },
                     config[0], config[1], config[2], config[3], config[4], config[5],
                 ];
-                errand.push(write_event(143, &bytes));
+                errand.push(write_event(address(set, 143), &bytes));
             }
             1 => {
-                errand.push(write_event(145, &config));
+                errand.push(write_event(address(set, 145), &config));
                 let other = self.rng.byte();
-                errand.push(write_event(143, &[selected, if immediate { other } else { selected }]));
+                let second = if immediate { other } else { selected };
+                errand.push(write_event(address(set, 143), &[selected, second]));
             }
             _ => {
                 let first = touched.trailing_zeros().min(7) as usize;
                 let end = 8 - (touched.leading_zeros() as usize).min(7 - first);
                 if self.rng.percent(30) {
-                    let settings = self.signal_integrity();
+                    let settings = self.signal_integrity(set);
                     errand.extend(settings);
                 }
-                errand.push(write_event(145 + first as u8, &config[first..end]));
-                errand.push(write_event(if immediate { 144 } else { 143 }, &[selected]));
+                errand.push(write_event(address(set, 145) + first as u8, &config[first..end]));
+                let trigger = if immediate { 144 } else { 143 };
+                errand.push(write_event(address(set, trigger), &[selected]));
             }
         }
         self.begin(errand)
+    }
+
+    /// The DPConfig bytes that a set has staged.
+    pub(super) fn staged_configs(&self, set: StagedSet) -> [u8; 8] {
+        [0, 1, 2, 3, 4, 5, 6, 7].map(|lane| self.state.staged(set, lane))
     }
 
     /// Puts one path into the DPConfig bytes to be staged; gives its lanes.
@@ -100,7 +106,7 @@ impl Maker {
     }
 
     /// The same AppSel, or another one of the same shape if there is one.
-    fn alternative(&mut self, app_sel: u8, first: u8) -> u8 {
+    pub(super) fn alternative(&mut self, app_sel: u8, first: u8) -> u8 {
         if self.rng.percent(60) {
             return app_sel;
         }
@@ -116,7 +122,7 @@ impl Maker {
         }
     }
 
-    fn fill(&mut self, config: &mut [u8; 8], lanes: u8, app_sel: u8, id: u8) -> u8 {
+    pub(super) fn fill(&mut self, config: &mut [u8; 8], lanes: u8, app_sel: u8, id: u8) -> u8 {
         let explicit = self.rng.below(3);
         for lane in LaneSet(lanes) {
             let control = match explicit {
@@ -128,12 +134,12 @@ impl Maker {
         lanes
     }
 
-    /// Writes that stage signal integrity settings, mostly allowed ones.
-    fn signal_integrity(&mut self) -> Vec<Event> {
+    /// Writes that stage signal integrity settings of a set, mostly allowed ones.
+    pub(super) fn signal_integrity(&mut self, set: StagedSet) -> Vec<Event> {
         let limits = self.state.image[P01 + 153];
         let cursors = self.state.image[P01 + 154];
         let mut writes = Vec::new();
-        for &(address, limit) in
+        for &(first, limit) in
             &[(156, limits & 15), (162, cursors & 15), (166, cursors >> 4), (170, 3)]
         {
             if self.rng.percent(40) {
@@ -152,12 +158,12 @@ impl Maker {
                     *byte |= value << shift;
                 }
             }
-            writes.push(write_event(address, &bytes));
+            writes.push(write_event(address(set, first), &bytes));
         }
         if self.rng.percent(50) {
             let (one, two, three) = (self.rng.byte(), self.rng.byte(), self.rng.byte());
-            writes.push(write_event(153, &[one]));
-            writes.push(write_event(160, &[two, three]));
+            writes.push(write_event(address(set, 153), &[one]));
+            writes.push(write_event(address(set, 160), &[two, three]));
         }
         writes
     }
@@ -167,13 +173,14 @@ impl Maker {
         if self.state.page() != 0x10 {
             return self.page(0x10);
         }
-        let address = 145 + self.rng.byte() % 29;
+        let set = self.set();
+        let first = 145 + self.rng.byte() % 29;
         let count = 1 + self.rng.below(4);
         let bytes = [self.rng.byte(), self.rng.byte(), self.rng.byte(), self.rng.byte()];
-        write_event(address, &bytes[..count])
+        write_event(address(set, first), &bytes[..count])
     }
 
-    /// A trigger on whatever is staged.
+    /// A trigger on whatever its set has staged.
     pub(super) fn trigger_again(&mut self) -> Event {
         if self.state.page() != 0x10 {
             return self.page(0x10);
@@ -187,11 +194,12 @@ impl Maker {
                 lanes &= self.rng.byte();
             }
         }
+        let set = self.set();
         if self.rng.percent(30) {
             let other = self.rng.byte();
-            write_event(143, &[lanes, other])
+            write_event(address(set, 143), &[lanes, other])
         } else {
-            write_event(143 + (self.rng.byte() & 1), &[lanes])
+            write_event(address(set, 143 + (self.rng.byte() & 1)), &[lanes])
         }
     }
 
@@ -207,6 +215,7 @@ impl Maker {
             lanes = self.state.path(lane);
         }
         let mut errand = vec![self.page(0x10)];
+        let set = self.set();
         let mut bytes = [0u8; 8];
         if self.rng.percent(30) {
             // DataPathID and ExplicitControl beside AppSel 0 do not matter.
@@ -215,13 +224,14 @@ impl Maker {
             }
         }
         let count = lanes.count_ones() as usize;
-        errand.push(write_event(145 + lanes.trailing_zeros() as u8, &bytes[..count]));
+        errand.push(write_event(address(set, 145) + lanes.trailing_zeros() as u8, &bytes[..count]));
         if self.rng.percent(15) {
             lanes &= self.rng.byte();
         } else if self.rng.percent(8) {
             lanes = 0xFF;
         }
-        errand.push(write_event(if self.rng.percent(40) { 144 } else { 143 }, &[lanes]));
+        let trigger = if self.rng.percent(40) { 144 } else { 143 };
+        errand.push(write_event(address(set, trigger), &[lanes]));
         self.begin(errand)
     }
 

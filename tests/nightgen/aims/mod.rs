@@ -5,6 +5,7 @@ mod applies;
 mod commands;
 mod paths;
 mod power;
+mod sets;
 mod signals;
 
 pub use self::commands::Slip;
@@ -13,7 +14,7 @@ use crate::rng::Rng;
 use crate::state::State;
 use second::module::Event;
 use second::night::Edition;
-use second::registers::IMAGE_LEN;
+use second::registers::{StagedSet, IMAGE_LEN};
 use std::collections::VecDeque;
 
 /// Which of the two condition events there are. A file has one of them.
@@ -78,7 +79,7 @@ impl Maker {
         // measuring, the six kinds of event of every edition about equally often.
         let free = self.errand.is_empty();
         let weights = if self.wild {
-            let (provision, command) = if free { (14, 11) } else { (2, 0) };
+            let (provision, command, sets) = if free { (14, 11, 9) } else { (2, 0, 0) };
             // The module is left alone for a while before its paths are up.
             let power = match (free, self.kinds.power) {
                 (true, true) if holds_down(&self.state) => 24,
@@ -86,9 +87,9 @@ impl Maker {
                 (true, _) if self.restless => 3,
                 _ => 0,
             };
-            [26, 24, provision, 4, 4, 22, 8, 8, 3, 3, 3, 2, 3, 4, command, power]
+            [26, 24, provision, 4, 4, 22, 8, 8, 3, 3, 3, 2, 3, 4, command, power, sets]
         } else {
-            [19, 19, if free { 6 } else { 0 }, 1, 1, 18, 19, 19, 1, 1, 1, 1, 0, 0, 0, 0]
+            [19, 19, if free { 6 } else { 0 }, 1, 1, 18, 19, 19, 1, 1, 1, 1, 0, 0, 0, 0, 0]
         };
         let mut left = self.rng.below(weights.iter().sum());
         let mut choice = 0;
@@ -112,13 +113,30 @@ impl Maker {
             12 => self.anything(),
             13 => self.mute(),
             14 => self.command(),
-            _ => self.power(),
+            15 => self.power(),
+            _ => self.both_sets(),
         }
     }
 
     fn begin(&mut self, errand: Vec<Event>) -> Event {
         self.errand.extend(errand);
         self.errand.pop_front().unwrap()
+    }
+
+    /// A set to stage in. A night for measuring knows set 0 alone.
+    fn set(&mut self) -> StagedSet {
+        if self.wild && self.rng.percent(45) {
+            StagedSet::One
+        } else {
+            StagedSet::Zero
+        }
+    }
+
+    /// The set that has staged what a lane has active; set 0 if none has.
+    fn set_that_holds(&self, lane: u8) -> StagedSet {
+        let active = self.state.active(lane);
+        let holds = |set: &StagedSet| self.state.staged(*set, lane) == active;
+        StagedSet::BOTH.into_iter().find(holds).unwrap_or(StagedSet::Zero)
     }
 
     fn lane(&mut self) -> u8 {

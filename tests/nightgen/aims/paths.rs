@@ -1,6 +1,7 @@
 //! Paths moved from state to state, deinitialized and muted.
 
 use super::{write_event, Maker};
+use crate::staged::address;
 use second::module::Event;
 
 impl Maker {
@@ -50,7 +51,8 @@ impl Maker {
         let mut errand = vec![self.page(0x10), write_event(130, &bytes)];
         if self.rng.percent(15) {
             // The path as it is, once more: something is pending beside.
-            errand.push(write_event(143, &[path]));
+            let set = self.set_that_holds(lane);
+            errand.push(write_event(address(set, 143), &[path]));
             errand.extend(vec![Event::Work { lane }; path.count_ones() as usize + 1]);
         }
         errand.extend((0..self.rng.below(4)).map(|_| Event::Hardware { lane }));

@@ -3,6 +3,7 @@
 
 use super::{write_event, Maker};
 use crate::power::{holds_down, requests};
+use crate::staged::address;
 use second::module::Event;
 use second::registers::*;
 
@@ -265,10 +266,11 @@ impl Maker {
             let lane = self.rng.lane_of(resting);
             let path = self.state.path(lane);
             let (first, count) = (path.trailing_zeros() as u8, path.count_ones() as usize);
+            let set = self.set();
             errand.extend([
                 self.page(0x10),
-                write_event(145 + first, &[0; 8][..count]),
-                write_event(143, &[path]),
+                write_event(address(set, 145) + first, &[0; 8][..count]),
+                write_event(address(set, 143), &[path]),
             ]);
             errand.extend(vec![Event::Work { lane: first }; 1 + self.rng.below(count - 1)]);
         }

@@ -1,8 +1,9 @@
 //! Writes and reads: pages, bytes that take a write, flags that a read clears.
 
 use super::Coverage;
+use crate::rules::left_by_write_on_10h;
+use crate::staged::{keeps, trigger_at};
 use crate::state::State;
-use second::lanes::Trigger;
 use second::module::*;
 use second::registers::*;
 
@@ -13,8 +14,7 @@ impl Coverage {
     /// they leave.)
     pub(super) fn look_at_write(&mut self, before: &State, address: u8, data: &[u8], after: &State) {
         let mut state = before.clone();
-        let mut triggers = 0;
-        let (mut bank_here, mut trigger_here) = (false, false);
+        let mut bank_here = false;
         for (place, &byte) in (address..=255).zip(data) {
             let (bank, page) = (state.image[BANK_SELECT], state.image[PAGE_SELECT]);
             let upper = state.page();
@@ -70,38 +70,28 @@ impl Coverage {
                         _ => "write on 11h",
                     });
                     if upper == 0x10 {
-                        match place {
-                            143 | 144 => {}
-                            128..=132 | 137..=139 | 145..=153 | 156..=173 | 213..=232 => {
-                                self.hit("pages", "write on 10h: byte takes it")
-                            }
-                            _ => self.hit("pages", "write on 10h: byte ignores it"),
-                        }
+                        self.look_at_byte_on_10h(&state, place, byte);
                     }
                 }
             }
-            let old = state.clone();
             state.step(&Event::Write { address: place, count: 1, data: [byte, 0, 0, 0, 0, 0, 0, 0] });
-            if upper == 0x10 && place > 127 {
-                if place == 143 || place == 144 {
-                    triggers += 1;
-                    trigger_here = true;
-                    if triggers == 2 {
-                        self.hit("triggers", "both triggers in one access");
-                        if old.in_progress() & !before.in_progress() & byte != 0 {
-                            self.hit("triggers", "second trigger of an access finds lanes in progress");
-                        }
-                    }
-                    let trigger =
-                        if place == 143 { Trigger::ApplyDPInit } else { Trigger::ApplyImmediate };
-                    self.look_at_trigger(&old, trigger, byte, &state);
-                } else if trigger_here && (145..=152).contains(&place) && triggers != 0 {
-                    triggers = 0;
-                    self.hit("triggers", "staged bytes after the trigger in one access");
-                }
-            }
         }
         assert!(state == *after, "a write differs from its bytes written one by one");
+        if address > 127 && before.page() == 0x10 {
+            let plainly = left_by_write_on_10h(before, address, data);
+            assert!(plainly == *after, "a write on 10h leaves otherwise than the plain rules");
+            self.look_at_triggers_in_access(before, address, data);
+        }
+    }
+
+    /// A byte that is written on page 10h, with the state that it finds.
+    fn look_at_byte_on_10h(&mut self, before: &State, address: u8, byte: u8) {
+        match trigger_at(address) {
+            Some((set, trigger)) => self.look_at_trigger(before, set, trigger, byte),
+            None if keeps(address) => self.hit("pages", "write on 10h: byte takes it"),
+            None => self.hit("pages", "write on 10h: byte ignores it"),
+        }
+        self.look_at_byte_of_set_1(address, byte);
     }
 
     pub(super) fn look_at_read(&mut self, before: &State, address: u8, count: u8, after: &State) {
@@ -126,8 +116,8 @@ impl Coverage {
                 self.hit("pages", "read of 128 bytes of 9Fh");
             }
         }
-        if page == 0x10 && over(143, 145) {
-            self.hit("pages", "read of the trigger bytes");
+        if page == 0x10 {
+            self.look_at_triggers_read(before, address, count);
         }
         if over(8, 10) {
             self.hit("flags", "lower 8-9 read");

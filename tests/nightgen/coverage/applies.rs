@@ -2,93 +2,91 @@
 
 use super::Coverage;
 use crate::rules::*;
+use crate::staged::of_set;
 use crate::state::*;
 use second::lanes::*;
 use second::module::*;
 use second::registers::*;
 
+/// The headings of what occurs in either set.
+pub(super) const TRIGGERS: [&str; 2] = ["triggers of set 0", "triggers of set 1"];
+const VERDICTS: [&str; 2] =
+    ["verdicts fixed by a trigger of set 0", "verdicts fixed by a trigger of set 1"];
+const WORK_STEPS: [&str; 2] = ["work steps of set 0", "work steps of set 1"];
+
 impl Coverage {
-    pub(super) fn look_at_trigger(&mut self, before: &State, trigger: Trigger, selected: u8, after: &State) {
+    /// What a trigger of a set finds. What it leaves is held against the plain rule
+    /// elsewhere.
+    pub(super) fn look_at_trigger(
+        &mut self,
+        before: &State,
+        set: StagedSet,
+        trigger: Trigger,
+        selected: u8,
+    ) {
+        let heading = of_set(set, TRIGGERS);
         if selected == 0 {
-            self.hit("triggers", "mask 0");
+            self.hit(heading, "mask 0");
         }
         if trigger == Trigger::ApplyImmediate && before.image[2] & 0x40 != 0 {
-            self.hit("triggers", "ApplyImmediate switched off by 2.6");
-            assert!(before.working == after.working, "2.6 does not switch ApplyImmediate off");
+            self.hit(heading, "ApplyImmediate switched off by 2.6");
             return;
         }
-        let groups = groups(before, selected);
-        let mut expected = before.working;
-        let (mut ignored, mut marked) = (0, 0);
+        let groups = groups(before, set, selected);
+        let idle = |group: &&u8| **group & before.in_progress() == 0;
+        let marked = groups.iter().filter(idle).count();
         for &group in &groups {
-            let first = group.trailing_zeros() as u8;
-            let busy = group & before.in_progress();
-            if busy != 0 {
-                ignored += 1;
-                self.hit("triggers", if busy == group {
-                    "group ignored, all its lanes in progress"
-                } else {
-                    "group ignored, some of its lanes idle"
-                });
-                if before.staged(first) >> 4 == 0 {
-                    self.hit("triggers", "release group ignored");
-                }
-                continue;
-            }
-            marked += 1;
-            if group == 0xFF {
-                self.hit("triggers", "group of all eight lanes");
-            }
-            if LaneSet(group).any(|lane| {
-                before.used() >> lane & 1 != 0 && before.path(lane) & before.in_progress() != 0
-            }) {
-                self.hit("triggers", "group marked while another lane of its path is in progress");
-            }
-            self.look_at_lasting_group(before, group);
-            self.look_at_group_behind_reset(group);
-            let (code, reason) = judge(before, trigger, group);
-            self.hit("verdicts fixed by a trigger", reason);
-            self.look_at_application(before, first, code, reason);
-            let verdict = match code {
-                1 => Verdict::Pass { next: first },
-                code => Verdict::Reject { code },
-            };
-            for lane in LaneSet(group) {
-                let staged = before.staged(lane);
-                let bit = |place: usize| before.image[place] >> lane & 1 != 0;
-                let held = Settings {
-                    app_sel: staged >> 4,
-                    data_path_id: staged >> 1 & 7,
-                    explicit_control: staged & 1 != 0,
-                    adaptive_eq: bit(STAGED_ADAPTIVE_EQ),
-                    cdr_tx: bit(STAGED_CDR_TX),
-                    cdr_rx: bit(STAGED_CDR_RX),
-                    input_eq: before.nibble(STAGED_INPUT_EQ, lane),
-                    pre_cursor: before.nibble(STAGED_PRE_CURSOR, lane),
-                    post_cursor: before.nibble(STAGED_POST_CURSOR, lane),
-                    amplitude: before.nibble(STAGED_AMPLITUDE, lane),
-                };
-                expected.lanes[lane as usize].stage =
-                    Stage::InProgress(Apply { group, trigger, held, verdict });
+            self.look_at_both_sets(before, set, trigger, selected, group);
+            if group & before.in_progress() != 0 {
+                self.look_at_ignored_group(before, set, group);
+            } else {
+                self.look_at_marked_group(before, set, trigger, group);
             }
         }
         if groups.len() > 1 {
-            self.hit("triggers", "several groups at once");
+            self.hit(heading, "several groups at once");
         }
-        if ignored > 0 && marked > 0 {
-            self.hit("triggers", "one group ignored, another marked");
+        if marked > 0 && marked < groups.len() {
+            self.hit(heading, "one group ignored, another marked");
         }
-        assert!(
-            expected == after.working,
-            "{:?} {:02x}: the core marks otherwise than the plain rules",
-            trigger,
-            selected
-        );
+    }
+
+    fn look_at_ignored_group(&mut self, before: &State, set: StagedSet, group: u8) {
+        let heading = of_set(set, TRIGGERS);
+        self.hit(heading, if group & !before.in_progress() == 0 {
+            "group ignored, all its lanes in progress"
+        } else {
+            "group ignored, some of its lanes idle"
+        });
+        if before.staged(set, group.trailing_zeros() as u8) >> 4 == 0 {
+            self.hit(heading, "release group ignored");
+        }
+    }
+
+    fn look_at_marked_group(
+        &mut self,
+        before: &State,
+        set: StagedSet,
+        trigger: Trigger,
+        group: u8,
+    ) {
+        let heading = of_set(set, TRIGGERS);
+        if group == 0xFF {
+            self.hit(heading, "group of all eight lanes");
+        }
+        if paths_of(before, group) & before.in_progress() != 0 {
+            self.hit(heading, "group marked while another lane of its path is in progress");
+        }
+        self.look_at_lasting_group(before, group);
+        self.look_at_group_behind_reset(group);
+        let (code, reason) = judge(before, set, trigger, group);
+        self.hit(of_set(set, VERDICTS), reason);
+        let app_sel = before.staged(set, group.trailing_zeros() as u8) >> 4;
+        self.look_at_application(before, app_sel, code, reason);
     }
 
     /// What a group of an AppSel above 8 was judged by.
-    fn look_at_application(&mut self, before: &State, lane: u8, code: u8, reason: &'static str) {
-        let app_sel = before.staged(lane) >> 4;
+    fn look_at_application(&mut self, before: &State, app_sel: u8, code: u8, reason: &'static str) {
         if app_sel <= 8 {
             return;
         }
@@ -115,9 +113,10 @@ impl Coverage {
 
     pub(super) fn look_at_work(&mut self, before: &State, lane: u8, outcome: &Outcome) {
         let apply = before.apply(lane).expect("work was done on an idle lane");
+        let heading = of_set(apply.set, WORK_STEPS);
         let release = apply.held.app_sel == 0;
         match apply.verdict {
-            Verdict::Reject { code } => self.hit("work steps", match code {
+            Verdict::Reject { code } => self.hit(heading, match code {
                 2 => "closed with 2",
                 3 => "closed with 3",
                 4 => "closed with 4",
@@ -127,27 +126,27 @@ impl Coverage {
             }),
             Verdict::Pass { next } if next < 8 => {
                 if next != lane {
-                    self.hit("work steps", "asked on a lane other than the one copied");
+                    self.hit(heading, "asked on a lane other than the one copied");
                 }
                 let held = before.apply(next).expect("next lane is idle").held;
-                let now = before.staged(next);
+                let now = before.staged(apply.set, next);
                 if held.app_sel != now >> 4 || held.data_path_id != now >> 1 & 7 {
-                    self.hit("work steps", "copied after the staged bytes changed");
+                    self.hit(heading, "copied after the staged bytes changed");
                 }
                 if !release {
-                    self.hit("work steps", if held.explicit_control {
+                    self.hit(heading, if held.explicit_control {
                         "copied with ExplicitControl"
                     } else {
                         "copied without ExplicitControl"
                     });
                 } else if before.used() >> next & 1 != 0 {
-                    self.hit("work steps", "copied zeros over a used lane");
+                    self.hit(heading, "copied zeros over a used lane");
                 }
             }
             Verdict::Pass { .. } => {
-                self.hit("work steps", "closed with 1");
+                self.hit(heading, "closed with 1");
                 if apply.group == 0xFF {
-                    self.hit("work steps", "closing step of eight lanes");
+                    self.hit(heading, "closing step of eight lanes");
                 }
                 let name = match (release, apply.trigger) {
                     (true, Trigger::ApplyDPInit) => "release closed by ApplyDPInit",
@@ -156,20 +155,28 @@ impl Coverage {
                     _ if outcome.commission != 0 => "ApplyImmediate closed, lanes to commission",
                     _ => "ApplyImmediate closed in DPDeactivated",
                 };
-                self.hit("work steps", name);
+                self.hit(heading, name);
                 if release && before.image[DP_INIT_PENDING] & apply.group != 0 {
-                    self.hit("work steps", "release closed, pending cleared");
+                    self.hit(heading, "release closed, pending cleared");
                 }
             }
         }
-        let half_copied = |other: &Apply| {
-            other.group != apply.group
-                && matches!(passing(other), Some(next) if next as u32 != other.group.trailing_zeros())
-        };
-        if passing(&apply).is_some()
-            && (0..8).filter_map(|other| before.apply(other)).any(|other| half_copied(&other))
-        {
-            self.hit("work steps", "on a passing group while another is half copied");
+        let of_others = |half: Apply| half.group != apply.group;
+        if passing(&apply).is_some() && half_copied(before).any(of_others) {
+            self.hit(heading, "on a passing group while another is half copied");
         }
+        self.look_at_work_of_sets(before, &apply);
     }
+}
+
+/// The lanes of the active paths that lanes of a group are on.
+pub(super) fn paths_of(state: &State, group: u8) -> u8 {
+    LaneSet(group & state.used()).fold(0, |lanes, lane| lanes | state.path(lane))
+}
+
+/// The Applies whose first lane is copied already, one for each of their lanes.
+pub(super) fn half_copied(state: &State) -> impl Iterator<Item = Apply> + '_ {
+    (0..8).filter_map(move |lane| state.apply(lane)).filter(|apply| {
+        matches!(passing(apply), Some(next) if next as u32 != apply.group.trailing_zeros())
+    })
 }

@@ -2,6 +2,7 @@
 //! find of them, and what goes on beside them.
 
 use super::resets::CutOff;
+use super::sets::Makers;
 use super::Coverage;
 use crate::image::limit;
 use crate::lasting::*;
@@ -38,6 +39,7 @@ impl Coverage {
     pub fn begin(&mut self, edition: Edition) {
         self.watch = Watch { edition: edition.number, ..Watch::default() };
         self.cut_off = CutOff::default();
+        self.makers = Makers::default();
     }
 
     /// Looks at an event that is done with what is on in mind.

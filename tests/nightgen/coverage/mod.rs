@@ -8,59 +8,42 @@ mod module_flags;
 mod paths;
 mod power;
 mod resets;
+mod sets;
 mod signals;
 mod wanted;
 
 use self::lasting::Watch;
 use self::resets::CutOff;
+use self::sets::Makers;
 use self::wanted::WANTED;
 use crate::aims::Slip;
 use crate::messages::runs_command;
 use crate::nights::Made;
 use crate::power::resets;
 use crate::state::State;
+use crate::tally::Tally;
 use second::module::*;
 use second::night::Edition;
 use second::registers::*;
-use std::collections::BTreeMap;
 use std::io::{self, Write};
 
 #[derive(Default)]
 pub struct Coverage {
-    counts: BTreeMap<(&'static str, &'static str), u64>,
+    tally: Tally,
     records: u64,
     watch: Watch,
     cut_off: CutOff,
+    makers: Makers,
 }
 
 impl Coverage {
     pub fn hit(&mut self, heading: &'static str, name: &'static str) {
-        let known =
-            WANTED.iter().any(|(head, names)| *head == heading && names.contains(&name));
-        assert!(known, "{}: {} is not on the list", heading, name);
-        *self.counts.entry((heading, name)).or_insert(0) += 1;
-    }
-
-    fn count(&self, heading: &'static str, name: &'static str) -> u64 {
-        self.counts.get(&(heading, name)).copied().unwrap_or(0)
+        self.tally.hit(WANTED, heading, name);
     }
 
     /// Prints all counts; gives how many are 0.
     pub fn print(&self, to: &mut dyn Write) -> io::Result<usize> {
-        let mut missing = 0;
-        let mut wanted = 0;
-        for (heading, names) in WANTED {
-            writeln!(to, "{}", heading)?;
-            for name in names.iter() {
-                let count = self.count(heading, name);
-                wanted += 1;
-                missing += (count == 0) as usize;
-                let note = if count == 0 { "   <- never" } else { "" };
-                writeln!(to, "  {:9}  {}{}", count, name, note)?;
-            }
-        }
-        writeln!(to, "{} of {} things occurred, in {} records", wanted - missing, wanted, self.records)?;
-        Ok(missing)
+        self.tally.print(WANTED, &format!("{} records", self.records), to)
     }
 
     /// Looks at a night as a file of an edition.

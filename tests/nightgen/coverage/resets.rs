@@ -54,6 +54,7 @@ impl Coverage {
             }
         }
         self.look_at_what_it_finds(before);
+        self.look_at_sets_cut_off(before);
         self.cut_off = CutOff { in_progress: before.in_progress(), used: before.used() };
     }
 

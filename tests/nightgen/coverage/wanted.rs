@@ -1,5 +1,48 @@
 //! What a set of nights must hold.
 
+/// Every verdict and its reason. It must occur in both sets.
+const VERDICTS: &[&str] = &[
+    "1 ApplyDPInit in DPDeactivated", "1 ApplyImmediate in DPDeactivated",
+    "1 ApplyDPInit in DPActivated", "1 ApplyImmediate in DPActivated",
+    "1 ApplyDPInit in DPInitialized", "1 ApplyImmediate in DPInitialized",
+    "1 ApplyDPInit changes AppSel outside DPDeactivated",
+    "1 release: lane on no path", "1 release: whole path",
+    "2 state is transient", "2 ApplyImmediate changes AppSel",
+    "3 descriptor begins with FFh",
+    "3 earlier descriptor begins with FFh", "3 host lane count not 1 to 8",
+    "4 AppSels differ", "4 first lane not allowed", "4 path runs past lane 7",
+    "4 lane outside the path",
+    "5 input EQ above its limit", "5 pre-cursor above its limit",
+    "5 post-cursor above its limit", "5 amplitude code above 3",
+    "5 amplitude code not supported",
+    "6 lane on another active path", "6 release: not DPDeactivated",
+    "7 lane of the path not in the group", "7 release: lane of the path missing",
+];
+
+/// What a trigger can find. It must occur in both sets.
+const TRIGGERS: &[&str] = &[
+    "mask 0", "several groups at once", "group of all eight lanes",
+    "group ignored, all its lanes in progress", "group ignored, some of its lanes idle",
+    "release group ignored", "one group ignored, another marked",
+    "ApplyImmediate switched off by 2.6",
+    "both triggers in one access", "second trigger of an access finds lanes in progress",
+    "staged bytes after the trigger in one access",
+    "group marked while another lane of its path is in progress",
+];
+
+/// What a work step can find and do. It must occur in both sets.
+const WORK_STEPS: &[&str] = &[
+    "closed with 1", "closed with 2", "closed with 3", "closed with 4",
+    "closed with 5", "closed with 6", "closed with 7",
+    "asked on a lane other than the one copied", "closing step of eight lanes",
+    "copied after the staged bytes changed", "copied with ExplicitControl",
+    "copied without ExplicitControl", "copied zeros over a used lane",
+    "on a passing group while another is half copied",
+    "ApplyDPInit closed, pending set", "ApplyImmediate closed, lanes to commission",
+    "ApplyImmediate closed in DPDeactivated", "release closed by ApplyDPInit",
+    "release closed by ApplyImmediate", "release closed, pending cleared",
+];
+
 /// Everything that must occur, by heading. (DPTxTurnOn with something pending
 /// is not on the list: it is sound, but no night leads there. Nothing is left
 /// pending in that state by its entry, and an Apply closing there is rejected.)
@@ -19,26 +62,8 @@ pub const WANTED: &[(&str, &[&str])] = &[
             "8 lasting condition on a byte that is no flag", "0 module", "0 line",
         ],
     ),
-    (
-        "verdicts fixed by a trigger",
-        &[
-            "1 ApplyDPInit in DPDeactivated", "1 ApplyImmediate in DPDeactivated",
-            "1 ApplyDPInit in DPActivated", "1 ApplyImmediate in DPActivated",
-            "1 ApplyDPInit in DPInitialized", "1 ApplyImmediate in DPInitialized",
-            "1 ApplyDPInit changes AppSel outside DPDeactivated",
-            "1 release: lane on no path", "1 release: whole path",
-            "2 state is transient", "2 ApplyImmediate changes AppSel",
-            "3 descriptor begins with FFh",
-            "3 earlier descriptor begins with FFh", "3 host lane count not 1 to 8",
-            "4 AppSels differ", "4 first lane not allowed", "4 path runs past lane 7",
-            "4 lane outside the path",
-            "5 input EQ above its limit", "5 pre-cursor above its limit",
-            "5 post-cursor above its limit", "5 amplitude code above 3",
-            "5 amplitude code not supported",
-            "6 lane on another active path", "6 release: not DPDeactivated",
-            "7 lane of the path not in the group", "7 release: lane of the path missing",
-        ],
-    ),
+    ("verdicts fixed by a trigger of set 0", VERDICTS),
+    ("verdicts fixed by a trigger of set 1", VERDICTS),
     (
         "AppSels 9 to 15",
         &[
@@ -48,30 +73,70 @@ pub const WANTED: &[(&str, &[&str])] = &[
             "host lane count 0", "host lane count above 8", "hardware event on its path",
         ],
     ),
+    ("triggers of set 0", TRIGGERS),
+    ("triggers of set 1", TRIGGERS),
+    ("work steps of set 0", WORK_STEPS),
+    ("work steps of set 1", WORK_STEPS),
     (
-        "triggers",
+        "triggers and lanes in progress from a set",
         &[
-            "mask 0", "several groups at once", "group of all eight lanes",
-            "group ignored, all its lanes in progress", "group ignored, some of its lanes idle",
-            "release group ignored", "one group ignored, another marked",
-            "ApplyImmediate switched off by 2.6",
-            "both triggers in one access", "second trigger of an access finds lanes in progress",
-            "staged bytes after the trigger in one access",
-            "group marked while another lane of its path is in progress",
+            "143 marks", "143 ignored for set 0", "143 ignored for set 1",
+            "144 marks", "144 ignored for set 0", "144 ignored for set 1",
+            "178 marks", "178 ignored for set 0", "178 ignored for set 1",
+            "179 marks", "179 ignored for set 0", "179 ignored for set 1",
+            "ignored for both sets", "ignored for the other set alone, with idle lanes",
         ],
     ),
     (
-        "work steps",
+        "between the sets",
         &[
-            "closed with 1", "closed with 2", "closed with 3", "closed with 4",
-            "closed with 5", "closed with 6", "closed with 7",
-            "asked on a lane other than the one copied", "closing step of eight lanes",
-            "copied after the staged bytes changed", "copied with ExplicitControl",
-            "copied without ExplicitControl", "copied zeros over a used lane",
-            "on a passing group while another is half copied",
-            "ApplyDPInit closed, pending set", "ApplyImmediate closed, lanes to commission",
-            "ApplyImmediate closed in DPDeactivated", "release closed by ApplyDPInit",
-            "release closed by ApplyImmediate", "release closed, pending cleared",
+            "set 0 marks while a group of set 1 is in progress",
+            "set 1 marks while a group of set 0 is in progress",
+            "marks while a lane of its path is in progress from the other set",
+            "set 0 groups otherwise than set 1 would", "set 1 groups otherwise than set 0 would",
+            "set 0 judged otherwise than set 1 would be",
+            "set 1 judged otherwise than set 0 would be",
+            "5 by set 0 alone", "5 by set 1 alone",
+            "1 by set 0, though set 1 is above a limit",
+            "1 by set 1, though set 0 is above a limit",
+            "set 0 goes over a path that set 1 made", "set 1 goes over a path that set 0 made",
+            "set 0 releases a path that set 1 made", "set 1 releases a path that set 0 made",
+            "set 0 worked on while a group of set 1 is half copied",
+            "set 1 worked on while a group of set 0 is half copied",
+            "set 0 closed while a group of set 1 is in progress",
+            "set 1 closed while a group of set 0 is in progress",
+            "set 1 marks with all its bytes at 0",
+            "set 1 marks in edition 1", "set 1 marks in edition 2", "set 1 marks in edition 3",
+            "set 1 marks in edition 4",
+            "reset of groups of set 0 alone", "reset of groups of set 1 alone",
+            "reset of groups of both sets", "reset with something staged in set 1",
+        ],
+    ),
+    (
+        "settings held that the other set has otherwise",
+        &[
+            "DPConfig of set 0", "DPConfig of set 1",
+            "AdaptiveInputEqEnableTx of set 0", "AdaptiveInputEqEnableTx of set 1",
+            "input EQ of set 0", "input EQ of set 1",
+            "CDREnableTx of set 0", "CDREnableTx of set 1",
+            "CDREnableRx of set 0", "CDREnableRx of set 1",
+            "pre-cursor of set 0", "pre-cursor of set 1",
+            "post-cursor of set 0", "post-cursor of set 1",
+            "amplitude of set 0", "amplitude of set 1",
+        ],
+    ),
+    (
+        "bytes of set 1",
+        &[
+            "180-187 take a write", "188 takes a write", "191-194 take a write",
+            "195 takes a write", "196 takes a write", "197-200 take a write",
+            "201-204 take a write", "205-208 take a write",
+            "189 ignores a write", "190 ignores a write", "209-210 ignore a write",
+            "211 ignores a write", "212 ignores a write",
+            "178 in one access behind settings of set 0",
+            "masks in one access behind settings of set 1",
+            "178 and 179 read", "178 read without 179", "179 read without 178",
+            "both sets read in one access", "set 1 read back", "read of bytes that ignore a write",
         ],
     ),
     (

@@ -11,8 +11,8 @@ use Rattle.access_writes.proofs.is_plain.Tie as tie
 
 returns : tie.Need-returns
 returns c =
-    let a = c .before .before .args in
-    plain-by _ _ _ (ap (λ t. t + a .address % 128) (c .half-start .ensures) ∙ place-by (now (a .image)) (a .address) (omega arith))
+    let a = c .before .before .before .args in
+    plain-by _ _ _ _ (c .meets-triggers .ensures) (ap (λ t. t + a .address % 128) (c .before .half-start .ensures) ∙ place-by (now (a .image)) (a .address) (omega arith))
 
 pub is-plain-spec : {M : Type 1} → statement M
 is-plain-spec =
@@ -20,5 +20,5 @@ is-plain-spec =
     (tie.spec
     (λ c κs. search needs)
     (λ c. let a = c .before .before .args in omega (arith, half-fits (now (a .image)) (a .address)))
-    (λ c. let a = c .before .before .args in omega (arith, half-fits (now (a .image)) (a .address)))
+    (λ c κs. let a = c .before .before .args in omega (arith, half-fits (now (a .image)) (a .address)))
     returns)

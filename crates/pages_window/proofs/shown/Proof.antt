@@ -10,6 +10,9 @@ shown-spec =
     tie.close
     (tie.spec
     (λ c. search needs)
-    (λ c. sym (shown-trigger _ _ (c .if1 .taken)))
     (λ c κs. search needs)
-    (λ c. c .without-reset .ensures ∙ sym (shown-byte _ _ (c .before .if1 .left))))
+    (λ c. search needs)
+    (λ c κs. search needs)
+    (λ c. search needs)
+    (λ c. c .without-reset .ensures ∙ sym (shown-byte _ _ (sym (c .before .before .before .trigger-at .ensures) ∙ c .before .enum-told .given .1)))
+    (λ c. sym (shown-trigger _ _ _ (sym (c .before .before .trigger-at .ensures) ∙ c .enum-told2 .given .1))))

@@ -16,5 +16,8 @@ agrees-spec =
     (λ c. search needs)
     (λ c κs. search needs)
     (λ c κs. search needs)
+    (λ c κs. search needs)
     (λ c. rw (c .enum-told .given .1))
-    (λ c. rw (c .before .before .before .before .before .stage .given .1, c .before .same-trigger .ensures, c .same-verdict .ensures) (and-both _ _ ∙ ap (both _) (and-both _ _))))
+    (λ c. rw
+    (c .before .before .before .before .before .before .stage .given .1, c .before .before .same-trigger .ensures, c .before .same-set .ensures, c .same-verdict .ensures)
+    (and-both _ _ ∙ ap (both _) (and-both _ _ ∙ ap (both _) (and-both _ _)))))

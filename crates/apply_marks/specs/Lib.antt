@@ -1,0 +1,2 @@
+-- What marking has come to.
+pub mod Marks

@@ -1,2 +1,0 @@
--- What the trigger's contracts cite beside the model.
-pub mod Marks

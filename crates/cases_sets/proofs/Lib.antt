@@ -1,0 +1,2 @@
+-- The worked cases of the second staged set hold.
+pub mod Sets

@@ -1,0 +1,2 @@
+-- Worked cases of the second staged set.
+pub mod Sets

@@ -1,0 +1,2 @@
+-- What runs of bytes meet.
+pub mod Meets
