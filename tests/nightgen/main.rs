@@ -19,6 +19,7 @@
 //! * `damage`: damaged files.
 //! * `claims`, `sound_states`: soundness and demand 3, from start and from
 //!   states made otherwise.
+//! * `links`: pairs of nights that differ on some lanes, and that no other lane knows.
 //! * `pieces`: the streaming form, files cut anywhere.
 //! * `options`: the command line. The commands themselves are in this file.
 
@@ -30,6 +31,7 @@ mod coverage;
 mod damage;
 mod image;
 mod lasting;
+mod links;
 mod messages;
 mod nights;
 mod options;
@@ -42,10 +44,12 @@ mod staged;
 mod state;
 mod tally;
 
+use self::aims::Kinds;
 use self::claims::Claims;
 use self::coverage::Coverage;
 use self::damage::Damage;
 use self::image::{limits, put_limits, turned_round};
+use self::links::{make_pair, Counts};
 use self::nights::{
     edition_of, make_night, night_file, night_length, FOURTH, REFUSED_EVERY, THIRD,
 };
@@ -67,8 +71,12 @@ nightgen: night files from fixed seeds
                                                    one night of R mixed records, of edition 4:
                                                    two module events, then the others; with
                                                    --edition 3 those others alone
+  nightgen links   [--seed S] [--count N] --dir D  pairs of nights that differ on some lanes:
+                                                   00000.first.night, 00000.second.night and
+                                                   00000.moments, how they lie side by side
   nightgen check   [--seed S] [--count N]          soundness and demand 3 on N nights;
-                                                   these and damaged files cut anywhere
+                                                   these and damaged files cut anywhere;
+                                                   ten pairs of runs for each night
 
 OUTPUT is --dir D (files 00000.night and so on) or --stream F (each file after
 its length in 4 bytes, high byte first; - is standard output). What the files
@@ -95,6 +103,7 @@ fn run(arguments: &[String]) -> Result<(), String> {
         "nights" => nights(&options),
         "damaged" => damaged(&options),
         "bench" => bench(&options),
+        "links" => links(&options),
         "check" => check(&options),
         _ => Err(format!("{} is not a command; see nightgen --help", command)),
     }
@@ -180,6 +189,25 @@ fn damaged(options: &Options) -> Result<(), String> {
     Ok(())
 }
 
+fn links(options: &Options) -> Result<(), String> {
+    let directory = options.directory()?;
+    let mut rng = Rng(options.seed);
+    let mut counts = Counts::default();
+    for index in 0..options.count {
+        let pair = make_pair(&mut rng, index, Kinds::of(FOURTH), &mut counts);
+        for (name, file) in pair.files(index) {
+            fs::write(directory.join(name), file).map_err(failed)?;
+        }
+        if let Some(what) = pair.broken {
+            return Err(format!("pair {}, after its last moment: {}", index, what));
+        }
+    }
+    match options.count {
+        0 => Ok(()),
+        _ => all_occurred(counts.print(&mut options.report()).map_err(failed)?),
+    }
+}
+
 fn all_occurred(missing: usize) -> Result<(), String> {
     match missing {
         0 => Ok(()),
@@ -221,6 +249,8 @@ fn check(options: &Options) -> Result<(), String> {
             claims.made_state(&mut rng)?;
         }
     }
+    let pairs = 10 * options.count;
+    let counts = check_links(options, pairs)?;
     let mut damage = Damage::new(&mut rng);
     for index in 0..damage.listed.len() + options.count {
         let (_, file) = damage.next();
@@ -247,15 +277,36 @@ fn check(options: &Options) -> Result<(), String> {
         claims.groups_of_two_sets
     );
     println!(
+        "{} pairs of runs that differ on some lanes, {} moments, {} of them in one run alone: every other lane is the same after each",
+        pairs, counts.moments, counts.alone
+    );
+    println!(
         "{} nights and damaged files in {} pieces: the streaming form prints the same as for each in one",
         pieces.files, pieces.pieces
     );
     Ok(())
 }
 
-/// A file that breaks a claim is kept, to be looked at.
+/// Pairs of runs in memory, with both condition events; gives what was counted.
+fn check_links(options: &Options, pairs: usize) -> Result<Counts, String> {
+    let mut rng = Rng(options.seed.rotate_right(1));
+    let mut counts = Counts::default();
+    for index in 0..pairs {
+        let pair = make_pair(&mut rng, index, Kinds::ALL, &mut counts);
+        if let Some(what) = &pair.broken {
+            let what = format!("two runs, after the last moment: {}", what);
+            return Err(kept(options, index, "counterexample.txt", pair.told().as_bytes(), what));
+        }
+    }
+    Ok(counts)
+}
+
+/// A night that breaks a claim is kept, to be looked at.
 fn counterexample(options: &Options, index: usize, file: &[u8], what: String) -> String {
-    let name = "counterexample.night";
+    kept(options, index, "counterexample.night", file, what)
+}
+
+fn kept(options: &Options, index: usize, name: &str, file: &[u8], what: String) -> String {
     match fs::write(name, file) {
         Ok(()) => format!("seed {}, file {}: {} (written to {})", options.seed, index, what, name),
         Err(error) => failed(error),

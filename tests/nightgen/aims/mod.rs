@@ -3,6 +3,7 @@
 mod accesses;
 mod applies;
 mod commands;
+mod one_side;
 mod paths;
 mod power;
 mod sets;
@@ -118,6 +119,11 @@ impl Maker {
         }
     }
 
+    /// Whether the next event is most likely the rest of an errand.
+    pub fn is_on_an_errand(&self) -> bool {
+        !self.errand.is_empty()
+    }
+
     fn begin(&mut self, errand: Vec<Event>) -> Event {
         self.errand.extend(errand);
         self.errand.pop_front().unwrap()
@@ -148,7 +154,7 @@ impl Maker {
     }
 }
 
-fn write_event(address: u8, bytes: &[u8]) -> Event {
+pub fn write_event(address: u8, bytes: &[u8]) -> Event {
     let mut data = [0u8; 8];
     data[..bytes.len()].copy_from_slice(bytes);
     Event::Write { address, count: bytes.len() as u8, data }

@@ -1,0 +1,2 @@
+-- The statement of Req 13.
+pub mod Links
