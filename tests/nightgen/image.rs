@@ -46,6 +46,22 @@ pub fn make_image(rng: &mut Rng, wild: bool) -> [u8; IMAGE_LEN] {
     image
 }
 
+/// How many lanes a path has in an image for Applies, by AppSel from 1 on.
+pub const PATH_LENGTHS: [usize; 4] = [1, 2, 4, 8];
+
+/// An image for measuring Applies: both triggers act, and paths of every length
+/// may begin wherever eight lanes can be cut into them. No more Applications.
+pub fn make_image_for_applies(rng: &mut Rng) -> [u8; IMAGE_LEN] {
+    let mut image = make_image(rng, false);
+    image[2] &= !0x40;
+    for (&length, place) in PATH_LENGTHS.iter().zip(DESCRIPTOR_PLACES) {
+        let first_lanes = (0..8).step_by(length).fold(0, |lanes, lane| lanes | 1 << lane);
+        image[place..place + 4].copy_from_slice(&[0x11, 0, (length as u8) << 4, first_lanes]);
+    }
+    image[DESCRIPTOR_PLACES[PATH_LENGTHS.len()]] = 0xFF;
+    image
+}
+
 /// Puts a descriptor of a usual or odd shape, or one that ends the list.
 fn put_descriptor(rng: &mut Rng, image: &mut [u8; IMAGE_LEN], a: usize, end: usize) {
     // Usual shapes of an Application: lane count, allowed first lanes.

@@ -51,7 +51,8 @@ use self::damage::Damage;
 use self::image::{limits, put_limits, turned_round};
 use self::links::{make_pair, Counts};
 use self::nights::{
-    edition_of, make_night, night_file, night_length, FOURTH, REFUSED_EVERY, THIRD,
+    edition_of, make_night, make_night_of_applies, night_file, night_length, FOURTH, REFUSED_EVERY,
+    THIRD,
 };
 use self::options::Options;
 use self::pieces::Pieces;
@@ -67,10 +68,12 @@ nightgen: night files from fixed seeds
 
   nightgen nights  [--seed S] [--count N] OUTPUT   nights with mixed events
   nightgen damaged [--seed S] [--count N] OUTPUT   damaged files, and some whole ones
-  nightgen bench   [--seed S] [--records R] [--edition 3] --dir D | --stream F
+  nightgen bench   [--seed S] [--records R] [--edition 3] [--applies] --dir D | --stream F
                                                    one night of R mixed records, of edition 4:
                                                    two module events, then the others; with
-                                                   --edition 3 those others alone
+                                                   --edition 3 those others alone; with
+                                                   --applies mostly Applies of 1, 2, 4 and 8
+                                                   lanes instead of mixed records
   nightgen links   [--seed S] [--count N] --dir D  pairs of nights that differ on some lanes:
                                                    00000.first.night, 00000.second.night and
                                                    00000.moments, how they lie side by side
@@ -223,7 +226,11 @@ fn bench(options: &Options) -> Result<(), String> {
         other => return Err(format!("edition {} is not measured", other)),
     };
     let (mut rng, length) = (Rng(options.seed), options.records + left_out);
-    let mut made = make_night(&mut rng, FOURTH, length, false, &mut Coverage::default());
+    let mut made = if options.applies {
+        make_night_of_applies(&mut rng, length)
+    } else {
+        make_night(&mut rng, FOURTH, length, false, &mut Coverage::default())
+    };
     made.events.drain(..left_out);
     let mut output = options.output()?;
     output.put(0, &night_file(edition, &made)).map_err(failed)?;

@@ -2,7 +2,7 @@
 
 use crate::aims::{Kinds, Maker};
 use crate::coverage::Coverage;
-use crate::image::make_image;
+use crate::image::{make_image, make_image_for_applies};
 use crate::rng::Rng;
 use second::module::Event;
 use second::night::{Edition, EDITIONS, HEADER_LEN};
@@ -52,6 +52,20 @@ pub fn make_night(
     }
     if length > 1000 {
         coverage.hit("nights", "index of four digits");
+    }
+    Made { image, events }
+}
+
+/// A night of the newest edition that is mostly Applies of 1, 2, 4 and 8 lanes.
+pub fn make_night_of_applies(rng: &mut Rng, length: usize) -> Made {
+    let image = make_image_for_applies(rng);
+    let mut maker = Maker::new(rng.clone(), &image, false, Kinds::of(FOURTH));
+    let mut opening = maker.opening().into_iter();
+    let mut events = Vec::with_capacity(length);
+    while events.len() < length {
+        let event = opening.next().unwrap_or_else(|| maker.next_of_applies());
+        maker.state.step(&event);
+        events.push(event);
     }
     Made { image, events }
 }

@@ -9,16 +9,28 @@ pub struct Options {
     pub count: usize,
     pub records: usize,
     pub edition: u64,
+    pub applies: bool,
     dir: Option<String>,
     stream: Option<String>,
 }
 
 impl Options {
     pub fn parse(arguments: &[String]) -> Result<Options, String> {
-        let mut options =
-            Options { seed: 1, count: 1500, records: 5000, edition: 4, dir: None, stream: None };
+        let mut options = Options {
+            seed: 1,
+            count: 1500,
+            records: 5000,
+            edition: 4,
+            applies: false,
+            dir: None,
+            stream: None,
+        };
         let mut rest = arguments.iter();
         while let Some(name) = rest.next() {
+            if name == "--applies" {
+                options.applies = true;
+                continue;
+            }
             let value = rest.next().ok_or_else(|| format!("{} needs a value", name))?;
             let number = || value.parse::<u64>().map_err(|_| format!("{} is not a number", value));
             match name.as_str() {

@@ -6,6 +6,7 @@ mod commands;
 mod one_side;
 mod paths;
 mod power;
+mod rounds;
 mod sets;
 mod signals;
 
