@@ -1,7 +1,7 @@
 //! What the module remembers beside the image, of its lanes and of the
 //! low-power line, and sets of lanes: shared by the core and the soundness test.
 
-use crate::registers::{StagedSet, LANES, LANE_FLAGS};
+use crate::registers::{StagedSet, LANES, LANE_FLAG_BYTES};
 
 /// Which trigger register started an Apply.
 #[derive(Clone, Copy, PartialEq, Eq, Debug)]
@@ -69,30 +69,9 @@ pub enum Stage {
     InProgress(Apply),
 }
 
-/// What the module remembers of a lane beside the image.
-#[derive(Clone, Copy, PartialEq, Eq, Debug)]
-pub struct LaneRecord {
-    pub stage: Stage,
-    /// Which of the lane's flags are on, so that they rise again when a read
-    /// has cleared them: bit k for flag byte 11h:134+k.
-    pub on: u32,
-}
-
-impl LaneRecord {
-    /// As start leaves a lane: no Apply under way, nothing on.
-    pub const IDLE: LaneRecord = LaneRecord { stage: Stage::Idle, on: 0 };
-
-    /// Says of the lane's flag in a flag byte, given by its place in the
-    /// image, whether it is on.
-    #[inline(always)]
-    pub fn set_on(&mut self, flag: usize, on: bool) {
-        let bit = flag - LANE_FLAGS;
-        self.on = (self.on & !(1 << bit)) | ((on as u32) << bit);
-    }
-
-    #[inline(always)]
+impl Stage {
     pub fn in_progress(&self) -> bool {
-        match self.stage {
+        match self {
             Stage::Idle => false,
             Stage::InProgress(_) => true,
         }
@@ -102,14 +81,18 @@ impl LaneRecord {
 /// All that the module remembers beside the image.
 #[derive(Clone, Copy, PartialEq, Eq, Debug)]
 pub struct Working {
-    pub lanes: [LaneRecord; LANES],
+    pub lanes: [Stage; LANES],
+    /// Which flags are on, so that they rise again when a read has cleared
+    /// them: a byte for each of the flag bytes from 11h:134 on, bit l for lane l.
+    pub on: [u8; LANE_FLAG_BYTES],
     /// Whether the low-power line is on; no register shows it.
     pub line: bool,
 }
 
 impl Working {
-    /// As start leaves it.
-    pub const AT_START: Working = Working { lanes: [LaneRecord::IDLE; LANES], line: false };
+    /// As start leaves it: no Apply under way, nothing on.
+    pub const AT_START: Working =
+        Working { lanes: [Stage::Idle; LANES], on: [0; LANE_FLAG_BYTES], line: false };
 }
 
 /// The lanes of a set, lowest first.

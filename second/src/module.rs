@@ -154,7 +154,7 @@ fn admit<'a>(image: &'a mut [u8], working: &'a mut Working) -> Result<Module<'a>
     if image[CHARACTERISTICS] & FLAT_MEMORY != 0 {
         return Err(answer::FLAT);
     }
-    if !soundness::sound(image, &working.lanes) {
+    if !soundness::sound(image, working) {
         return Err(answer::NOT_SOUND);
     }
     Ok(Module { image, working })
@@ -189,6 +189,20 @@ const fn stored_from() -> [u64; 128] {
     table
 }
 
+/// The base of each page that there is; page 00h for all others. From page 10h
+/// on they are those of bank 0.
+const BASES: [u16; 256] = bases();
+
+const fn bases() -> [u16; 256] {
+    let mut table = [P00 as u16; 256];
+    table[0x01] = P01 as u16;
+    table[0x02] = P02 as u16;
+    table[0x10] = P10 as u16;
+    table[0x11] = P11 as u16;
+    table[0x9F] = P9F as u16;
+    table
+}
+
 /// Bits that read as 0: triggers are never stored, nor is the reset, but a lent
 /// image may hold something in their places.
 const NEVER_SHOWN: [(usize, u8); 5] = [
@@ -199,27 +213,39 @@ const NEVER_SHOWN: [(usize, u8); 5] = [
     (MODULE_CONTROLS, SOFTWARE_RESET),
 ];
 
-/// Whether an access of page 10h covers a trigger of one of the sets.
-#[inline(always)]
-fn covers_trigger(address: u8, count: u8) -> bool {
-    let first = P10 + address as usize;
-    let end = first + count as usize;
-    StagedSet::BOTH
-        .iter()
-        .any(|set| first <= set.place(APPLY_IMMEDIATE) && end > set.place(APPLY_DP_INIT))
+/// For each offset on page 10h, how many bytes an access from there on has to
+/// have to cover a trigger; more than any access has if there is none.
+const TO_TRIGGER: [u8; 128] = to_trigger();
+
+const fn to_trigger() -> [u8; 128] {
+    let mut table = [0xFF; 128];
+    let mut offset = 128;
+    let mut bytes = 0xFF;
+    while offset > 0 {
+        offset -= 1;
+        bytes = match trigger_at(P10 + 128 + offset) {
+            Some(_) => 1,
+            None if bytes < 0xFF => bytes + 1,
+            None => bytes,
+        };
+        table[offset] = bytes;
+    }
+    table
 }
 
 /// The trigger that a place of the image is, with the set that it applies.
-fn trigger_at(place: usize) -> Option<(StagedSet, Trigger)> {
-    for set in StagedSet::BOTH {
-        if place == set.place(APPLY_DP_INIT) {
-            return Some((set, Trigger::ApplyDPInit));
-        }
-        if place == set.place(APPLY_IMMEDIATE) {
-            return Some((set, Trigger::ApplyImmediate));
-        }
+const fn trigger_at(place: usize) -> Option<(StagedSet, Trigger)> {
+    if place == StagedSet::Zero.place(APPLY_DP_INIT) {
+        Some((StagedSet::Zero, Trigger::ApplyDPInit))
+    } else if place == StagedSet::Zero.place(APPLY_IMMEDIATE) {
+        Some((StagedSet::Zero, Trigger::ApplyImmediate))
+    } else if place == StagedSet::One.place(APPLY_DP_INIT) {
+        Some((StagedSet::One, Trigger::ApplyDPInit))
+    } else if place == StagedSet::One.place(APPLY_IMMEDIATE) {
+        Some((StagedSet::One, Trigger::ApplyImmediate))
+    } else {
+        None
     }
-    None
 }
 
 /// For a set of lanes, Fh in the nibble of each of them.
@@ -241,30 +267,43 @@ const fn nibbles_of() -> [u32; 256] {
     table
 }
 
-/// One bit a byte: which of the eight bytes of `word` are not zero.
+/// Of each of the eight bytes, the top bit says whether it is not zero in its
+/// lower seven bits. The other bits say nothing.
 #[inline(always)]
-fn nonzero_bytes(word: u64) -> u8 {
-    const LOW: u64 = 0x7F7F_7F7F_7F7F_7F7F;
-    let high_bits = (((word & LOW) + LOW) | word) & !LOW;
-    ((high_bits >> 7).wrapping_mul(0x0102_0408_1020_4080) >> 56) as u8
+fn nonzero(word: u64) -> u64 {
+    (word & everywhere(0x7F)) + everywhere(0x7F)
+}
+
+/// One bit a byte: the lanes whose byte has its top bit set.
+#[inline(always)]
+fn lanes_marked(marks: u64) -> u8 {
+    ((marks >> 7 & everywhere(1)).wrapping_mul(0x0102_0408_1020_4080) >> 56) as u8
 }
 
 /// `byte` eight times.
 #[inline(always)]
-fn everywhere(byte: u8) -> u64 {
+const fn everywhere(byte: u8) -> u64 {
     byte as u64 * 0x0101_0101_0101_0101
+}
+
+/// DPConfig bytes of all lanes: the mark of each whose AppSel is not 0.
+#[inline(always)]
+fn app_sel_marks(dp_configs: u64) -> u64 {
+    nonzero(dp_configs & everywhere(0x70)) | dp_configs
 }
 
 /// DPConfig bytes of all lanes: the lanes whose AppSel is not 0.
 #[inline(always)]
 fn with_app_sel(dp_configs: u64) -> u8 {
-    nonzero_bytes(dp_configs & everywhere(0xF0))
+    lanes_marked(app_sel_marks(dp_configs))
 }
 
-/// DPConfig bytes of all lanes: the lanes with this DataPathID.
+/// DPConfig bytes of all lanes: the lanes whose AppSel is not 0 and whose
+/// DataPathID is that of `own`.
 #[inline(always)]
-fn with_data_path_id(dp_configs: u64, id: u8) -> u8 {
-    !nonzero_bytes((dp_configs ^ everywhere(id << 1)) & everywhere(0x0E))
+fn path_with(dp_configs: u64, own: u8) -> u8 {
+    let other_ids = nonzero((dp_configs ^ everywhere(own)) & everywhere(0x0E));
+    lanes_marked(app_sel_marks(dp_configs) & !other_ids)
 }
 
 /// A state at work: the lent image and what is beside it. Its steps take the
@@ -304,6 +343,7 @@ impl<'a> Module<'a> {
             Event::Module => self.module_event(),
             Event::Line { on } => self.line(on),
         };
+        // A lent state may have had it wrong.
         if outcome.answer == answer::DONE {
             self.settle_interrupt();
         }
@@ -324,6 +364,11 @@ impl<'a> Module<'a> {
         let mut bytes = [0u8; 4];
         bytes.copy_from_slice(&self.image[place..place + 4]);
         u32::from_le_bytes(bytes)
+    }
+
+    #[inline(always)]
+    fn set_half_word(&mut self, place: usize, value: u32) {
+        self.image[place..place + 4].copy_from_slice(&value.to_le_bytes());
     }
 
     #[inline(always)]
@@ -353,11 +398,12 @@ impl<'a> Module<'a> {
     fn set_nibbles(&mut self, place: usize, lanes: u8, value: u8) {
         let field = NIBBLES_OF[lanes as usize];
         let all = (self.half_word(place) & !field) | ((value as u32 * 0x1111_1111) & field);
-        self.image[place..place + 4].copy_from_slice(&all.to_le_bytes());
+        self.set_half_word(place, all);
     }
 
     /// Bit 0 of lower 3 is 0 exactly while a flag is up that its mask lets
-    /// through.
+    /// through. It is right after start, and every event keeps it so: this is
+    /// asked again where a flag may have gone or a mask changed.
     #[inline(always)]
     fn settle_interrupt(&mut self) {
         const LOOKED_AT: u8 = COMMAND_COMPLETE | MODULE_STATE_CHANGED;
@@ -369,24 +415,31 @@ impl<'a> Module<'a> {
             (self.image[MODULE_STATE] & !INTERRUPT_DEASSERTED) | (showing == 0) as u8;
     }
 
+    /// Raises lane flags. The interrupt may come of it, but not go.
+    #[inline(always)]
+    fn raise(&mut self, flag: usize, lanes: u8) {
+        self.image[flag] |= lanes;
+        if lanes & !self.image[mask_of(flag)] != 0 {
+            self.image[MODULE_STATE] &= !INTERRUPT_DEASSERTED;
+        }
+    }
+
     // ---- host accesses ----
 
     /// Base of the page that upper addresses go to.
     #[inline(always)]
     pub fn upper_page(&self) -> usize {
-        match self.image[PAGE_SELECT] {
-            0x01 => P01,
-            0x02 => P02,
-            0x10 if self.image[BANK_SELECT] == 0 => P10,
-            0x11 if self.image[BANK_SELECT] == 0 => P11,
-            0x9F if self.image[BANK_SELECT] == 0 => P9F,
-            _ => P00,
+        let page = BASES[self.image[PAGE_SELECT] as usize] as usize;
+        if page >= P10 && self.image[BANK_SELECT] != 0 {
+            P00
+        } else {
+            page
         }
     }
 
     /// The data come as one word, first byte lowest.
     #[inline(always)]
-    fn write(&mut self, address: u8, count: u8, data: u64) -> Outcome {
+    pub(crate) fn write(&mut self, address: u8, count: u8, data: u64) -> Outcome {
         if count > 8 || !within_its_half(address, count) {
             return Outcome::refused(answer::BAD_ACCESS);
         }
@@ -406,10 +459,14 @@ impl<'a> Module<'a> {
 
     #[inline(always)]
     fn write_on_10h(&mut self, address: u8, count: u8, data: u64) {
-        if covers_trigger(address, count) {
+        let offset = (address & 127) as usize;
+        if count >= TO_TRIGGER[offset] {
             self.write_with_triggers(address, count, data);
         } else {
-            self.store_on_10h((address & 127) as usize, data, count);
+            self.store_on_10h(offset, data, count);
+            if P10 + address as usize + count as usize > LANE_MASKS {
+                self.settle_interrupt();
+            }
         }
     }
 
@@ -423,6 +480,7 @@ impl<'a> Module<'a> {
         self.image[written.clone()].copy_from_slice(&bytes[..count as usize]);
         if written.contains(&COMMAND_TRIGGER) {
             commands::run(self.image);
+            self.settle_interrupt();
         }
     }
 
@@ -445,13 +503,15 @@ impl<'a> Module<'a> {
         }
         if resets {
             self.reset();
+        } else if address as usize <= MODULE_MASKS {
+            self.settle_interrupt();
         }
     }
 
     /// A fresh start, whatever was under way, but the line stays as it is.
     fn reset(&mut self) {
         make_fresh(self.image);
-        self.working.lanes = Working::AT_START.lanes;
+        *self.working = Working { line: self.working.line, ..Working::AT_START };
     }
 
     /// Stores up to eight bytes on page 10h, those that take it, at once.
@@ -508,12 +568,10 @@ impl<'a> Module<'a> {
     #[inline(always)]
     pub(crate) fn after_read(&mut self, range: Range<usize>) {
         if range.start < MODULE_FLAGS_END {
-            self.clear_within(&range, MODULE_FLAGS, MODULE_FLAGS_END);
+            self.clear_module_flags(&range);
         } else if range.end > LANE_FLAGS {
-            self.clear_within(&range, LANE_FLAGS, LANE_FLAGS_END);
-            self.set_again_within(&range);
+            self.clear_lane_flags(&range);
         }
-        self.settle_interrupt();
     }
 
     #[inline(always)]
@@ -536,29 +594,24 @@ impl<'a> Module<'a> {
         Outcome { answer: answer::DONE, commission: 0, read: count }
     }
 
-    /// Clears what a range covers of `first..end`.
+    /// Takes what a range covers of lower 8-9 to 0.
     #[inline(always)]
-    fn clear_within(&mut self, range: &Range<usize>, first: usize, end: usize) {
-        let (first, end) = (range.start.max(first), range.end.min(end));
+    fn clear_module_flags(&mut self, range: &Range<usize>) {
+        let (first, end) = (range.start.max(MODULE_FLAGS), range.end.min(MODULE_FLAGS_END));
         if first < end {
             self.image[first..end].fill(0);
+            self.settle_interrupt();
         }
     }
 
-    /// Sets the flags that are on, in the flag bytes that a range covers.
+    /// Of the lane flags that a range covers, those that are on stay.
     #[inline(always)]
-    fn set_again_within(&mut self, range: &Range<usize>) {
+    fn clear_lane_flags(&mut self, range: &Range<usize>) {
         let (first, end) = (range.start.max(LANE_FLAGS), range.end.min(LANE_FLAGS_END));
-        if first >= end {
-            return;
-        }
-        let covered = (1u32 << (end - LANE_FLAGS)) - (1 << (first - LANE_FLAGS));
-        for (lane, record) in self.working.lanes.iter().enumerate() {
-            let mut left = record.on & covered;
-            while left != 0 {
-                self.image[LANE_FLAGS + left.trailing_zeros() as usize] |= 1 << lane;
-                left &= left - 1;
-            }
+        if first < end {
+            let on = &self.working.on[first - LANE_FLAGS..end - LANE_FLAGS];
+            self.image[first..end].copy_from_slice(on);
+            self.settle_interrupt();
         }
     }
 
@@ -578,7 +631,7 @@ impl<'a> Module<'a> {
         if app_sel(own) == 0 {
             0
         } else {
-            with_app_sel(active) & with_data_path_id(active, data_path_id(own))
+            path_with(active, own)
         }
     }
 
@@ -594,7 +647,7 @@ impl<'a> Module<'a> {
         let staged = self.word(set.place(STAGED_DP_CONFIG));
         let own = (staged >> (8 * lane)) as u8;
         if app_sel(own) != 0 {
-            selected & with_app_sel(staged) & with_data_path_id(staged, data_path_id(own))
+            selected & path_with(staged, own)
         } else {
             let path = self.path_of(lane);
             selected & !with_app_sel(staged) & (path | 1 << lane)
@@ -636,7 +689,7 @@ impl<'a> Module<'a> {
         self.set_nibbles(CONFIG_STATUS, group, config_status::IN_PROGRESS);
         for lane in LaneSet(group) {
             let held = self.staged(set, lane);
-            self.working.lanes[lane as usize & 7].stage =
+            self.working.lanes[lane as usize & 7] =
                 Stage::InProgress(Apply { group, trigger, set, held, verdict });
         }
     }
@@ -696,8 +749,7 @@ impl<'a> Module<'a> {
     fn judge_use(&self, set: StagedSet, trigger: Trigger, group: u8, own: u8) -> Result<(), u8> {
         // The group shares a DataPathID; its AppSels may differ.
         let staged = self.word(set.place(STAGED_DP_CONFIG));
-        let others = staged ^ everywhere(own);
-        if nonzero_bytes(others & everywhere(0xF0)) & group != 0 {
+        if with_app_sel(staged ^ everywhere(own)) & group != 0 {
             return Err(config_status::INVALID_DATA_PATH);
         }
         let descriptor = match self.descriptor(app_sel(own)) {
@@ -719,7 +771,7 @@ impl<'a> Module<'a> {
         if used != 0 && self.path_of(used.trailing_zeros() as u8) != group {
             return Err(config_status::LANES_IN_USE);
         }
-        let explicit = nonzero_bytes(staged & everywhere(0x01)) & group;
+        let explicit = lanes_marked(staged << 7) & group;
         if !LaneSet(explicit).all(|lane| self.settings_allowed(set, lane)) {
             return Err(config_status::INVALID_SI);
         }
@@ -757,11 +809,11 @@ impl<'a> Module<'a> {
     // ---- work ----
 
     #[inline(always)]
-    fn work<const LATE: bool>(&mut self, lane: u8) -> Outcome {
+    pub(crate) fn work<const LATE: bool>(&mut self, lane: u8) -> Outcome {
         if lane > 7 {
             return Outcome::refused(answer::NO_SUCH_PLACE);
         }
-        let apply = match self.working.lanes[lane as usize & 7].stage {
+        let apply = match self.working.lanes[lane as usize & 7] {
             Stage::InProgress(apply) => apply,
             Stage::Idle => return Outcome::refused(answer::NOTHING_THERE),
         };
@@ -797,7 +849,7 @@ impl<'a> Module<'a> {
         // An empty byte has eight trailing zeros, which is NO_NEXT_LANE.
         let next = above.trailing_zeros() as u8;
         for lane in LaneSet(group) {
-            if let Stage::InProgress(apply) = &mut self.working.lanes[lane as usize & 7].stage {
+            if let Stage::InProgress(apply) = &mut self.working.lanes[lane as usize & 7] {
                 apply.verdict = Verdict::Pass { next };
             }
         }
@@ -806,7 +858,7 @@ impl<'a> Module<'a> {
     /// Copies a lane's held settings into the active set.
     #[inline(always)]
     fn copy(&mut self, lane: u8) {
-        let new = match self.working.lanes[lane as usize & 7].stage {
+        let new = match self.working.lanes[lane as usize & 7] {
             Stage::InProgress(apply) => as_copied(apply.held),
             Stage::Idle => return,
         };
@@ -826,7 +878,7 @@ impl<'a> Module<'a> {
     fn close(&mut self, group: u8, code: u8) {
         self.set_nibbles(CONFIG_STATUS, group, code);
         for lane in LaneSet(group) {
-            self.working.lanes[lane as usize & 7].stage = Stage::Idle;
+            self.working.lanes[lane as usize & 7] = Stage::Idle;
         }
     }
 
@@ -868,7 +920,7 @@ impl<'a> Module<'a> {
 
     /// One state on, if there is a way; the flag rises where a steady state is
     /// entered that is not to be left at once.
-    fn module_event(&mut self) -> Outcome {
+    pub(crate) fn module_event(&mut self) -> Outcome {
         use module_state::*;
         let low_power = self.low_power();
         let state = self.module_state();
@@ -884,11 +936,12 @@ impl<'a> Module<'a> {
             (self.image[MODULE_STATE] & !MODULE_STATE_BITS) | next << MODULE_STATE_SHIFT;
         if next == READY || next == LOW_PWR && low_power {
             self.image[MODULE_FLAGS] |= MODULE_STATE_CHANGED;
+            self.settle_interrupt();
         }
         Outcome::DONE
     }
 
-    fn line(&mut self, on: bool) -> Outcome {
+    pub(crate) fn line(&mut self, on: bool) -> Outcome {
         self.working.line = on;
         Outcome::DONE
     }
@@ -896,7 +949,7 @@ impl<'a> Module<'a> {
     // ---- hardware, conditions, samples ----
 
     #[inline(always)]
-    fn hardware(&mut self, lane: u8) -> Outcome {
+    pub(crate) fn hardware(&mut self, lane: u8) -> Outcome {
         if lane > 7 {
             return Outcome::refused(answer::NO_SUCH_PLACE);
         }
@@ -933,17 +986,17 @@ impl<'a> Module<'a> {
         if next != state {
             self.set_nibbles(DP_STATE, path, next);
             if let DEACTIVATED | INITIALIZED | ACTIVATED = next {
-                self.image[DP_STATE_CHANGED] |= path;
+                self.raise(DP_STATE_CHANGED, path);
             }
         }
         Outcome::DONE
     }
 
     #[inline(always)]
-    fn condition(&mut self, flag_byte: u8, mask: u8) -> Outcome {
+    pub(crate) fn condition(&mut self, flag_byte: u8, mask: u8) -> Outcome {
         match condition_flag(flag_byte) {
             Some(flag) => {
-                self.image[flag] |= mask;
+                self.raise(flag, mask);
                 Outcome::DONE
             }
             None => Outcome::refused(answer::NO_SUCH_PLACE),
@@ -952,37 +1005,51 @@ impl<'a> Module<'a> {
 
     /// The flags of the on mask rise; those of the off mask stay till a read.
     #[inline(always)]
-    fn lasting_condition(&mut self, flag_byte: u8, on: u8, off: u8) -> Outcome {
+    pub(crate) fn lasting_condition(&mut self, flag_byte: u8, on: u8, off: u8) -> Outcome {
         let flag = match condition_flag(flag_byte) {
             Some(flag) => flag,
             None => return Outcome::refused(answer::NO_SUCH_PLACE),
         };
-        self.image[flag] |= on;
-        for lane in LaneSet(on | off) {
-            self.working.lanes[lane as usize & 7].set_on(flag, on >> lane & 1 != 0);
-        }
+        self.raise(flag, on);
+        let lasting = &mut self.working.on[flag - LANE_FLAGS];
+        *lasting = (*lasting & !off) | on;
         Outcome::DONE
     }
 
     #[inline(always)]
-    fn sample(&mut self, lane: u8, value: u16) -> Outcome {
+    pub(crate) fn sample(&mut self, lane: u8, value: u16) -> Outcome {
         if lane > 7 {
             return Outcome::refused(answer::NO_SUCH_PLACE);
         }
         let place = RX_POWER + 2 * (lane & 7) as usize;
         self.image[place..place + 2].copy_from_slice(&value.to_be_bytes());
-        let compared = [
-            (RX_POWER_HIGH_ALARM_FLAG, value > u16_at(self.image, RX_POWER_HIGH_ALARM)),
-            (RX_POWER_LOW_ALARM_FLAG, value < u16_at(self.image, RX_POWER_LOW_ALARM)),
-            (RX_POWER_HIGH_WARNING_FLAG, value > u16_at(self.image, RX_POWER_HIGH_WARNING)),
-            (RX_POWER_LOW_WARNING_FLAG, value < u16_at(self.image, RX_POWER_LOW_WARNING)),
+        let holds = [
+            value > u16_at(self.image, RX_POWER_HIGH_ALARM),
+            value < u16_at(self.image, RX_POWER_LOW_ALARM),
+            value > u16_at(self.image, RX_POWER_HIGH_WARNING),
+            value < u16_at(self.image, RX_POWER_LOW_WARNING),
         ];
-        for (flag, holds) in compared {
-            self.image[flag] |= (holds as u8) << lane;
-            self.working.lanes[lane as usize & 7].set_on(flag, holds);
+        // The four flag bytes are neighbours in this order: one word, as are
+        // their masks and what is on of them.
+        let raised = u32::from_le_bytes(holds.map(|holds| holds as u8)) << lane;
+        let of_the_lane = 0x0101_0101 << lane;
+        let flags = self.half_word(RX_POWER_HIGH_ALARM_FLAG);
+        self.set_half_word(RX_POWER_HIGH_ALARM_FLAG, flags | raised);
+        if raised & !self.half_word(mask_of(RX_POWER_HIGH_ALARM_FLAG)) != 0 {
+            self.image[MODULE_STATE] &= !INTERRUPT_DEASSERTED;
         }
+        let first = RX_POWER_HIGH_ALARM_FLAG - LANE_FLAGS;
+        let on = &mut self.working.on[first..first + 4];
+        let lasting = u32::from_le_bytes([on[0], on[1], on[2], on[3]]);
+        on.copy_from_slice(&((lasting & !of_the_lane) | raised).to_le_bytes());
         Outcome::DONE
     }
+}
+
+/// Where the mask of a lane flag byte lies.
+#[inline(always)]
+const fn mask_of(flag: usize) -> usize {
+    flag - LANE_FLAGS + LANE_MASKS
 }
 
 /// Where a flag byte that conditions raise lies; none for any other byte.

@@ -4,7 +4,6 @@
 use crate::lanes::*;
 use crate::module::*;
 use crate::registers::*;
-use std::convert::TryFrom;
 
 pub const MAX_RECORDS: usize = 5000;
 pub const HEADER_LEN: usize = 16;
@@ -68,7 +67,8 @@ pub struct Night<'a> {
 /// whose image it refuses.
 pub fn check(file: &[u8]) -> Result<Night<'_>, u8> {
     let night = parts(file).ok_or(answer::MALFORMED)?;
-    if !each_record(night.records).all(|record| well_formed(night.edition, record)) {
+    let forms = forms_of(night.edition);
+    if !Records(night.records).all(|record| forms.include(record)) {
         return Err(answer::MALFORMED);
     }
     match start_refusal(&night.image) {
@@ -105,53 +105,104 @@ pub fn read_header(header: &[u8; HEADER_LEN]) -> Option<Header> {
     right.then(|| Header { edition, record_count: number(4) })
 }
 
-/// How many bytes a record of each kind uses; a write's data come on top, and
-/// the off mask of a lasting condition.
-const USED_BYTES: [u8; 9] = [0, 3, 3, 2, 2, 3, 4, 1, 2];
-
-/// For a number of used bytes: all ones in the unused bytes of a record's
-/// first eight and last four, first byte lowest.
-const UNUSED_BITS: [(u64, u32); 16] = unused_bits();
-
-const fn unused_bits() -> [(u64, u32); 16] {
-    let mut table = [(0, 0); 16];
-    let mut used = 0;
-    while used < RECORD_LEN {
-        let bits = !0u128 << (8 * used);
-        table[used] = (bits as u64, (bits >> 64) as u32);
-        used += 1;
-    }
-    table
+/// A record is looked at as a number, first byte lowest: that it uses so many
+/// bytes at most, the others being 0, is that it is below this.
+const fn using(bytes: usize) -> u128 {
+    1 << (8 * bytes)
 }
 
-/// Whether a record's kind is one of its edition, what it does not use there
-/// is 0, and the line is said to be on or off.
-#[inline(always)]
+/// The kinds of record that an edition has.
+struct Forms {
+    /// For each kind but the write, its records are below this, and their last
+    /// four bytes are 0; 0 for what is no kind.
+    limits: [u64; 256],
+}
+
+/// A write of so many bytes, which come after three others, is below this.
+const WRITE_LIMITS: [u128; 9] = [
+    using(3),
+    using(4),
+    using(5),
+    using(6),
+    using(7),
+    using(8),
+    using(9),
+    using(10),
+    using(11),
+];
+
+impl Forms {
+    const fn of(edition: Edition) -> Forms {
+        let mut limits = [0; 256];
+        limits[2] = using(3) as u64;
+        limits[3] = using(2) as u64;
+        limits[4] = using(2) as u64;
+        limits[5] = using(if edition.lasting { 4 } else { 3 }) as u64;
+        limits[6] = using(4) as u64;
+        if edition.power {
+            limits[7] = using(1) as u64;
+            // Its second byte is 0 or 1: the line is off or on.
+            limits[8] = 2 * using(1) as u64;
+        }
+        Forms { limits }
+    }
+
+    /// Whether a record's kind is one of these, what it does not use is 0, and
+    /// the line is said to be on or off.
+    #[inline(always)]
+    fn include(&self, record: &[u8; RECORD_LEN]) -> bool {
+        let (mut front, mut back) = ([0u8; 8], [0u8; 4]);
+        front.copy_from_slice(&record[..8]);
+        back.copy_from_slice(&record[8..]);
+        let (front, back) = (u64::from_le_bytes(front), u32::from_le_bytes(back));
+        match record[0] {
+            1 => {
+                let whole = front as u128 | (back as u128) << 64;
+                whole < WRITE_LIMITS[record[2].min(8) as usize]
+            }
+            kind => front < self.limits[kind as usize] && back == 0,
+        }
+    }
+}
+
+/// In the order of `EDITIONS`.
+static FORMS: [Forms; 4] = [
+    Forms::of(EDITIONS[0]),
+    Forms::of(EDITIONS[1]),
+    Forms::of(EDITIONS[2]),
+    Forms::of(EDITIONS[3]),
+];
+
+fn forms_of(edition: Edition) -> &'static Forms {
+    &FORMS[edition.number as usize - 1]
+}
+
+/// Whether a record is one of its edition.
 pub fn well_formed(edition: Edition, record: &[u8; RECORD_LEN]) -> bool {
-    let kind = record[0];
-    let last_kind = if edition.power { 8 } else { 6 };
-    if kind == 0 || kind > last_kind {
-        return false;
-    }
-    let mut used = USED_BYTES[kind as usize];
-    match kind {
-        1 => used += record[2].min(8),
-        5 => used += edition.lasting as u8,
-        8 if record[1] > 1 => return false,
-        _ => {}
-    }
-    let (mut front, mut back) = ([0u8; 8], [0u8; 4]);
-    front.copy_from_slice(&record[..8]);
-    back.copy_from_slice(&record[8..]);
-    let unused = UNUSED_BITS[(used & 15) as usize];
-    u64::from_le_bytes(front) & unused.0 == 0 && u32::from_le_bytes(back) & unused.1 == 0
+    forms_of(edition).include(record)
 }
 
 /// The records of a night, twelve bytes each.
+#[derive(Clone, Copy)]
+struct Records<'a>(&'a [u8]);
+
+impl<'a> Iterator for Records<'a> {
+    type Item = &'a [u8; RECORD_LEN];
+
+    #[inline(always)]
+    fn next(&mut self) -> Option<Self::Item> {
+        let record = self.0.get(..RECORD_LEN)?;
+        self.0 = &self.0[RECORD_LEN..];
+        record.try_into().ok()
+    }
+}
+
+/// The data of a write as one word, first byte lowest.
 #[inline(always)]
-fn each_record(records: &[u8]) -> impl Iterator<Item = &[u8; RECORD_LEN]> {
-    // A chunk always has the length of a record, so nothing is left out.
-    records.chunks_exact(RECORD_LEN).filter_map(|chunk| <&[u8; RECORD_LEN]>::try_from(chunk).ok())
+fn data_of(record: &[u8; RECORD_LEN]) -> u64 {
+    let mut data = [0u8; 8];
+    data.copy_from_slice(&record[3..11]);
+    u64::from_le_bytes(data)
 }
 
 /// The event of a record that has passed the check.
@@ -159,11 +210,7 @@ fn each_record(records: &[u8]) -> impl Iterator<Item = &[u8; RECORD_LEN]> {
 pub fn event_of(edition: Edition, record: &[u8; RECORD_LEN]) -> Event {
     let (first, second, third) = (record[1], record[2], record[3]);
     match record[0] {
-        1 => {
-            let mut data = [0u8; 8];
-            data.copy_from_slice(&record[3..11]);
-            Event::Write { address: first, count: second, data }
-        }
+        1 => Event::Write { address: first, count: second, data: data_of(record).to_le_bytes() },
         2 => Event::Read { address: first, count: second },
         3 => Event::Work { lane: first },
         4 => Event::Hardware { lane: first },
@@ -192,7 +239,7 @@ impl<'a> Night<'a> {
 
     pub fn events(&self) -> impl Iterator<Item = Event> + 'a {
         let edition = self.edition;
-        each_record(self.records).map(move |record| event_of(edition, record))
+        Records(self.records).map(move |record| event_of(edition, record))
     }
 }
 
@@ -210,133 +257,169 @@ fn replay_night(night: &Night) -> Vec<u8> {
     start(&mut image, &mut working);
     let mut module = Module { image: &mut image, working: &mut working };
     let mut printed = Printed::with_room_for(night.len());
-    for event in night.events() {
-        if let Event::Read { address, count } = event {
-            // Printed straight from the image: the trigger bytes and the reset
-            // bit are 0 there from start on, so no read has to hide them.
-            match module.read_range(address, count) {
-                Ok(range) => {
-                    printed.line_with(&module.image[range.clone()]);
-                    module.after_read(range);
-                }
-                Err(number) => printed.line(number),
+    for ten in night.records.chunks(10 * RECORD_LEN) {
+        for record in Records(ten) {
+            match *record {
+                [2, address, count, ..] => match module.read_range(address, count) {
+                    Ok(range) => {
+                        // Printed straight from the image: the trigger bytes and the reset
+                        // bit are 0 there from start on, so no read has to hide them.
+                        printed.line_with(&module.image[range.clone()]);
+                        module.after_read(range);
+                    }
+                    Err(number) => printed.line(number),
+                },
+                _ => printed.line(play(&mut module, night.edition, record)),
             }
-        } else {
-            let outcome = module.step(&event, &mut []);
-            printed.line(outcome.answer);
         }
+        printed.ten_more();
     }
-    printed.bytes
+    printed.finish()
 }
 
-/// " 00" to " ff", each in a word of which the first three bytes count.
-pub(crate) const HEX: [[u8; 4]; 256] = hex_table();
+/// The answer to a record that has passed the check and is no read: what
+/// `event_of` and a step give, with no event made in between.
+#[inline(always)]
+fn play(module: &mut Module, edition: Edition, record: &[u8; RECORD_LEN]) -> u8 {
+    let (first, second, third) = (record[1], record[2], record[3]);
+    let outcome = match record[0] {
+        1 => module.write(first, second, data_of(record)),
+        3 => module.work::<false>(first),
+        4 => module.hardware(first),
+        5 if edition.lasting => module.lasting_condition(first, second, third),
+        5 => module.condition(first, second),
+        6 => module.sample(first, u16::from_be_bytes([second, third])),
+        7 => module.module_event(),
+        _ => module.line(first == 1),
+    };
+    outcome.answer
+}
 
-const fn hex_table() -> [[u8; 4]; 256] {
+/// " 00" to " ff", first character lowest.
+pub(crate) const HEX: [u32; 256] = hex_table();
+
+const fn hex_table() -> [u32; 256] {
     let digits = b"0123456789abcdef";
-    let mut table = [[b' '; 4]; 256];
+    let mut table = [0; 256];
     let mut byte = 0;
     while byte < 256 {
-        table[byte][1] = digits[byte >> 4];
-        table[byte][2] = digits[byte & 15];
+        table[byte] = u32::from_le_bytes([b' ', digits[byte >> 4], digits[byte & 15], 0]);
         byte += 1;
     }
     table
 }
 
-/// The lines printed so far. The next short line is kept ready as a word,
-/// first character highest, and counts up as text: no division, no copying
-/// of single characters.
+/// The next line as it is without read bytes: its text as a word of which
+/// seven characters count, first one lowest. The index has four digits there
+/// and counts up as text; its leading zeros are not printed.
+struct NextLine {
+    /// The line with answer 0.
+    word: u64,
+    /// How many bits the zeros take.
+    zeros: u32,
+    length: u32,
+}
+
+/// Where the last two digits of the index and the answer stand, in bits.
+const TENS_AT: u32 = 16;
+const ONES_AT: u32 = 24;
+const ANSWER_AT: u32 = 40;
+
+impl NextLine {
+    fn first() -> NextLine {
+        NextLine { word: u64::from_le_bytes(*b"0000 0\n\0"), zeros: ONES_AT, length: 4 }
+    }
+
+    #[inline(always)]
+    fn with_answer(&self, answer: u8) -> [u8; WORD] {
+        ((self.word | (answer as u64) << ANSWER_AT) >> self.zeros).to_le_bytes()
+    }
+
+    /// The last digit one up. It may go past 9, if `carry` comes next.
+    #[inline(always)]
+    fn count_up(&mut self) {
+        self.word += 1 << ONES_AT;
+    }
+
+    /// Carries the last digit, which has gone past 9.
+    #[inline(always)]
+    fn carry(&mut self) {
+        self.word = self.word - (10 << ONES_AT) + (1 << TENS_AT);
+        if (self.word >> TENS_AT) as u8 > b'9' || self.zeros == ONES_AT {
+            self.carry_on();
+        }
+    }
+
+    /// The tens have gone past 9, or are the first of all.
+    #[cold]
+    fn carry_on(&mut self) {
+        for place in [TENS_AT, TENS_AT - 8] {
+            if (self.word >> place) as u8 > b'9' {
+                self.word = self.word - (10 << place) + (1 << (place - 8));
+            }
+        }
+        let digits = self.word as u32 ^ u32::from_le_bytes(*b"0000");
+        self.zeros = digits.trailing_zeros() & !7;
+        self.length = SHORT_LINE as u32 - self.zeros / 8;
+    }
+}
+
+/// The lines printed so far.
 struct Printed {
-    bytes: Vec<u8>,
-    /// The next line, with answer 0.
-    next: u64,
-    /// Its length.
-    length: usize,
-    /// How far the answer and the last digit of the index are from the end
-    /// of the word, in bits.
-    answer_at: u32,
-    ones_at: u32,
-    /// Where a line with read bytes is put together.
-    scratch: [u8; LONGEST_LINE + WORD],
+    /// Room for all lines there may be.
+    text: Vec<u8>,
+    /// Where the next line begins.
+    end: u32,
+    next: NextLine,
 }
 
 impl Printed {
-    /// Most nights print about two words a line; the rest grows as it must.
     fn with_room_for(lines: usize) -> Printed {
-        let mut printed = Printed {
-            bytes: Vec::with_capacity((lines + 1) * 2 * WORD),
-            next: 0,
-            length: 0,
-            answer_at: 0,
-            ones_at: 0,
-            scratch: [0; LONGEST_LINE + WORD],
-        };
-        printed.index_is(b"0");
-        printed
-    }
-
-    /// Makes the next line ready from the digits of its index.
-    fn index_is(&mut self, digits: &[u8]) {
-        let mut word = [0u8; WORD];
-        word[..digits.len()].copy_from_slice(digits);
-        word[digits.len()..digits.len() + 3].copy_from_slice(b" 0\n");
-        self.next = u64::from_be_bytes(word);
-        self.length = digits.len() + 3;
-        self.ones_at = 8 * (WORD - digits.len()) as u32;
-        self.answer_at = self.ones_at - 16;
+        Printed { text: vec![0; longest_text(lines) + WORD], end: 0, next: NextLine::first() }
     }
 
     /// A line with an answer alone.
     #[inline(always)]
     fn line(&mut self, answer: u8) {
-        let text = self.next | (answer as u64) << self.answer_at;
-        let end = self.bytes.len() + self.length;
-        self.bytes.extend_from_slice(&text.to_be_bytes());
-        self.bytes.truncate(end);
-        self.count_up();
+        let end = self.end as usize;
+        self.text[end..end + WORD].copy_from_slice(&self.next.with_answer(answer));
+        self.end += self.next.length;
+        self.next.count_up();
     }
 
     /// The line of a read that is done.
     #[inline(always)]
     fn line_with(&mut self, read: &[u8]) {
-        self.scratch[..WORD].copy_from_slice(&self.next.to_be_bytes());
-        let mut at = self.length - 1;
-        for &byte in read {
-            self.scratch[at..at + 4].copy_from_slice(&HEX[byte as usize]);
-            at += 3;
+        self.line(answer::DONE);
+        // The bytes go where the line ended.
+        let at = self.end as usize - 1;
+        let mut room = &mut self.text[at..];
+        let mut left = read;
+        while let ([a, b, c, d, rest @ ..], true) = (left, room.len() >= 12) {
+            let (place, more) = room.split_at_mut(12);
+            let [a, b, c, d] = [a, b, c, d].map(|&byte| HEX[byte as usize]);
+            let front = a as u64 | (b as u64) << 24 | (c as u64) << 48;
+            place[..8].copy_from_slice(&front.to_le_bytes());
+            place[8..].copy_from_slice(&(c >> 16 | d << 8).to_le_bytes());
+            (left, room) = (rest, more);
         }
-        self.scratch[at] = b'\n';
-        self.bytes.extend_from_slice(&self.scratch[..at + 1]);
-        self.count_up();
+        for &byte in left {
+            room[..4].copy_from_slice(&HEX[byte as usize].to_le_bytes());
+            room = &mut room[3..];
+        }
+        room[0] = b'\n';
+        self.end += 3 * read.len() as u32;
     }
 
+    /// The next line's index is a number of tens.
     #[inline(always)]
-    fn count_up(&mut self) {
-        self.next += 1 << self.ones_at;
-        if (self.next >> self.ones_at) as u8 > b'9' {
-            self.carry();
-        }
+    fn ten_more(&mut self) {
+        self.next.carry();
     }
 
-    /// Carries a last digit that has gone past 9.
-    #[cold]
-    fn carry(&mut self) {
-        let mut at = self.ones_at;
-        while (self.next >> at) as u8 > b'9' {
-            self.next -= 10 << at;
-            at += 8;
-            if at == 64 {
-                return self.one_digit_more();
-            }
-            self.next += 1 << at;
-        }
-    }
-
-    /// All digits have become 0: a one goes before them.
-    fn one_digit_more(&mut self) {
-        let digits = self.length - 3;
-        self.index_is(&b"10000"[..digits + 1]);
+    fn finish(mut self) -> Vec<u8> {
+        self.text.truncate(self.end as usize);
+        self.text
     }
 }
 

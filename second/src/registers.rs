@@ -113,6 +113,7 @@ pub const DP_STATE: usize = P11 + 128;
 /// Twenty flag bytes, 11h:134-153, cleared by reading.
 pub const LANE_FLAGS: usize = P11 + 134;
 pub const LANE_FLAGS_END: usize = P11 + 154;
+pub const LANE_FLAG_BYTES: usize = LANE_FLAGS_END - LANE_FLAGS;
 pub const DP_STATE_CHANGED: usize = P11 + 134;
 pub const RX_POWER_HIGH_ALARM_FLAG: usize = P11 + 149;
 pub const RX_POWER_LOW_ALARM_FLAG: usize = P11 + 150;
@@ -219,10 +220,7 @@ impl StagedSet {
     /// Where the set has a register, given where set 0 has it.
     #[inline(always)]
     pub const fn place(self, in_set_0: usize) -> usize {
-        match self {
-            StagedSet::Zero => in_set_0,
-            StagedSet::One => in_set_0 + SET_1_ABOVE,
-        }
+        in_set_0 + SET_1_ABOVE * self as usize
     }
 }
 

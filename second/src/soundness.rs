@@ -7,13 +7,13 @@ use crate::lanes::*;
 use crate::registers::*;
 
 /// Whether a state meets (a) to (f).
-pub fn sound(image: &[u8; IMAGE_LEN], lanes: &[LaneRecord; LANES]) -> bool {
-    unsound_at(image, lanes).is_none()
+pub fn sound(image: &[u8; IMAGE_LEN], working: &Working) -> bool {
+    unsound_at(image, working).is_none()
 }
 
 /// The first condition that a state does not meet, with a lane that shows it.
-pub fn unsound_at(image: &[u8; IMAGE_LEN], lanes: &[LaneRecord; LANES]) -> Option<(char, usize)> {
-    let view = View { image, lanes };
+pub fn unsound_at(image: &[u8; IMAGE_LEN], working: &Working) -> Option<(char, usize)> {
+    let view = View { image, working };
     let conditions: [(char, &dyn Fn(usize) -> bool); 6] = [
         ('a', &|lane| view.status_fits_stage(lane)),
         ('b', &|lane| view.group_agrees(lane)),
@@ -37,12 +37,12 @@ const CAN_LAST: [usize; 10] = [135, 136, 137, 138, 147, 148, 149, 150, 151, 152]
 
 struct View<'a> {
     image: &'a [u8; IMAGE_LEN],
-    lanes: &'a [LaneRecord; LANES],
+    working: &'a Working,
 }
 
 impl<'a> View<'a> {
     fn apply(&self, lane: usize) -> Option<&'a Apply> {
-        match &self.lanes[lane].stage {
+        match &self.working.lanes[lane] {
             Stage::Idle => None,
             Stage::InProgress(apply) => Some(apply),
         }
@@ -213,9 +213,8 @@ impl<'a> View<'a> {
 
     /// (f) Only flags that can last are on, and each flag that is on is 1.
     fn what_is_on_shows(&self, lane: usize) -> bool {
-        let on = self.lanes[lane].on;
-        (0..u32::BITS as usize)
-            .filter(|&k| on & (1 << k) != 0)
+        (0..LANE_FLAG_BYTES)
+            .filter(|&k| self.working.on[k] & (1 << lane) != 0)
             .map(|k| 134 + k)
             .all(|flag_byte| CAN_LAST.contains(&flag_byte) && self.bit(P11 + flag_byte, lane))
     }

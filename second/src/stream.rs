@@ -123,7 +123,7 @@ impl Stream {
         let outcome = module.step(&event_of(self.edition, &self.record), &mut read);
         printed.extend_from_slice(format!("{} {}", self.next, outcome.answer).as_bytes());
         for &byte in &read[..outcome.read as usize] {
-            printed.extend_from_slice(&HEX[byte as usize][..3]);
+            printed.extend_from_slice(&HEX[byte as usize].to_le_bytes()[..3]);
         }
         printed.push(b'\n');
     }

@@ -35,7 +35,7 @@ impl Claims {
         let told = |at: usize, event: &Event, what: String| {
             format!("after event {} ({:?}): {}", at, event, what)
         };
-        if let Some(broken) = soundness::unsound_at(&now.image, &now.working.lanes) {
+        if let Some(broken) = soundness::unsound_at(&now.image, &now.working) {
             return Err(format!("start is not sound: {:?}", broken));
         }
         for (at, event) in made.events.iter().enumerate() {
@@ -61,7 +61,7 @@ impl Claims {
                     return Err(told(at, event, "read bytes differ".to_string()));
                 }
             }
-            if let Some(broken) = soundness::unsound_at(&now.image, &now.working.lanes) {
+            if let Some(broken) = soundness::unsound_at(&now.image, &now.working) {
                 return Err(told(at, event, format!("not sound, {:?}", broken)));
             }
             if !dark_below_ready(&now) {
@@ -75,13 +75,13 @@ impl Claims {
     /// Makes a sound state that no start need lead to, and goes on from it.
     pub fn made_state(&mut self, rng: &mut Rng) -> Result<(), String> {
         let state = make_sound_state(rng);
-        if !soundness::sound(&state.image, &state.working.lanes) {
+        if !soundness::sound(&state.image, &state.working) {
             return Ok(());
         }
         self.made_states += 1;
         self.refuse_two_sets(rng, &state)?;
         let mut exchanged = with_sets_exchanged(&state);
-        if !soundness::sound(&exchanged.image, &exchanged.working.lanes) {
+        if !soundness::sound(&exchanged.image, &exchanged.working) {
             return Err(format!("not sound from the other set: {:?}", state.working));
         }
         // With no group half way, the late run can begin here as well.
@@ -95,7 +95,7 @@ impl Claims {
             let now = &mut maker.state;
             let outcome = desk(&mut now.image, &mut now.working, &event, &mut buffer);
             self.made_events += 1;
-            let broken = soundness::unsound_at(&now.image, &now.working.lanes);
+            let broken = soundness::unsound_at(&now.image, &now.working);
             if outcome.answer == 3 || broken.is_some() {
                 return Err(format!(
                     "from a made sound state, {:?} leads to {:?}; records before {:?}; image before {:02x?}",
@@ -133,7 +133,7 @@ impl Claims {
             None => return Ok(()),
         };
         self.groups_of_two_sets += 1;
-        let found = soundness::unsound_at(&torn.image, &torn.working.lanes);
+        let found = soundness::unsound_at(&torn.image, &torn.working);
         let mut after = torn.clone();
         let line = Event::Line { on: true };
         let outcome = desk(&mut after.image, &mut after.working, &line, &mut []);
@@ -148,17 +148,15 @@ impl Claims {
 /// Whether two states are the same but for the sets that groups were held from.
 fn same_but_for_sets(one: &State, other: &State) -> bool {
     let without_sets = |state: &State| {
-        state.working.lanes.map(|record| match record.stage {
+        let lanes = state.working.lanes.map(|stage| match stage {
             Stage::InProgress(apply) => {
-                let stage = Stage::InProgress(Apply { set: StagedSet::Zero, ..apply });
-                LaneRecord { stage, ..record }
+                Stage::InProgress(Apply { set: StagedSet::Zero, ..apply })
             }
-            Stage::Idle => record,
-        })
+            Stage::Idle => Stage::Idle,
+        });
+        Working { lanes, ..state.working }
     };
-    one.image == other.image
-        && one.working.line == other.working.line
-        && without_sets(one) == without_sets(other)
+    one.image == other.image && without_sets(one) == without_sets(other)
 }
 
 /// Whether an event that is done runs a command.

@@ -21,11 +21,7 @@ pub fn index(flag_byte: u8) -> usize {
 
 /// Of each flag byte, the lanes on which it is on.
 pub fn on(state: &State) -> ByFlag {
-    let mut on = [0; 20];
-    for (k, lanes) in on.iter_mut().enumerate() {
-        *lanes = state.lanes_where(|lane| state.working.lanes[lane as usize].on >> k & 1 != 0);
-    }
-    on
+    state.working.on
 }
 
 /// The flag bytes themselves.

@@ -166,7 +166,7 @@ pub fn triggered(before: &State, set: StagedSet, trigger: Trigger, selected: u8)
         };
         for lane in LaneSet(group) {
             let held = settings(before, set, lane);
-            after.working.lanes[lane as usize].stage =
+            after.working.lanes[lane as usize] =
                 Stage::InProgress(Apply { group, trigger, set, held, verdict });
             let status = &mut after.image[P11 + 202 + lane as usize / 2];
             *status = if lane % 2 == 0 { *status & 0xF0 | 0x0C } else { *status & 0x0F | 0xC0 };

@@ -49,9 +49,7 @@ pub fn make_sound_state(rng: &mut Rng) -> State {
     // What is on is 1 in its flag byte; not every flag that is 1 is on.
     for flag_byte in OF_CONDITIONS.into_iter().chain(OF_RECEIVED_POWER) {
         let lanes = state.image[P11 + flag_byte as usize] & rng.byte();
-        for lane in LaneSet(lanes) {
-            state.working.lanes[lane as usize].on |= 1 << index(flag_byte);
-        }
+        state.working.on[index(flag_byte)] = lanes;
     }
 
     // Whole paths on lanes that are still free.
@@ -116,7 +114,7 @@ pub fn make_sound_state(rng: &mut Rng) -> State {
                 post_cursor: rng.byte() & 15,
                 amplitude: rng.byte() & 15,
             };
-            state.working.lanes[lane as usize].stage =
+            state.working.lanes[lane as usize] =
                 Stage::InProgress(Apply { group, trigger, set, held, verdict });
             put(&mut state.image, CONFIG_STATUS, lane, 12);
             if matches!(verdict, Verdict::Pass { next } if lane < next) {
@@ -145,7 +143,7 @@ pub fn make_sound_state(rng: &mut Rng) -> State {
 fn with_set_exchanged(state: &State, lanes: u8) -> State {
     let mut exchanged = state.clone();
     for lane in LaneSet(lanes) {
-        if let Stage::InProgress(apply) = &mut exchanged.working.lanes[lane as usize].stage {
+        if let Stage::InProgress(apply) = &mut exchanged.working.lanes[lane as usize] {
             apply.set = other(apply.set);
         }
     }

@@ -35,7 +35,7 @@ impl State {
     }
 
     pub fn apply(&self, lane: u8) -> Option<Apply> {
-        match self.working.lanes[lane as usize].stage {
+        match self.working.lanes[lane as usize] {
             Stage::Idle => None,
             Stage::InProgress(apply) => Some(apply),
         }
@@ -56,7 +56,14 @@ impl State {
 
     /// The lanes on which something is on.
     pub fn with_something_on(&self) -> u8 {
-        self.lanes_where(|lane| self.working.lanes[lane as usize].on != 0)
+        self.working.on.iter().fold(0, |lanes, on| lanes | on)
+    }
+
+    /// All that is kept of a lane beside the image: the stage of its Apply, and of
+    /// each flag byte whether the lane's flag is on.
+    pub fn record(&self, lane: u8) -> (Stage, [bool; LANE_FLAG_BYTES]) {
+        let on = self.working.on.map(|lanes| lanes >> lane & 1 != 0);
+        (self.working.lanes[lane as usize], on)
     }
 
     pub fn nibble(&self, place: usize, lane: u8) -> u8 {

@@ -87,8 +87,7 @@ impl<'a> Seen<'a> {
 /// The lanes of A that are not the same in both runs, in bits or records.
 fn lanes_apart(a: &SetA, states: &[State; 2]) -> u8 {
     let [one, other] = states;
-    let records_apart =
-        |lane: u8| one.working.lanes[lane as usize] != other.working.lanes[lane as usize];
+    let records_apart = |lane: u8| one.record(lane) != other.record(lane);
     one.lanes_where(|lane| {
         a.has(lane) && (records_apart(lane) || bits_apart(states, lane, 0..IMAGE_LEN))
     })

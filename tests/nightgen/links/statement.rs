@@ -253,8 +253,7 @@ pub fn same_outside(a: &SetA, states: &[State; 2]) -> Result<(), String> {
             return Err(format!("image byte {} is {:02x} and {:02x}", place, one, other));
         }
     }
-    let records = |state: &State, lane: u8| state.working.lanes[lane as usize];
-    match (0..8).find(|&lane| !a.has(lane) && records(one, lane) != records(other, lane)) {
+    match (0..8).find(|&lane| !a.has(lane) && one.record(lane) != other.record(lane)) {
         Some(lane) => Err(format!("the records of lane {} differ", lane)),
         None if one.working.line != other.working.line => Err("the lines differ".to_string()),
         None => Ok(()),
