@@ -6,21 +6,11 @@ ghost use Prim.Native.Nat.{_+_, _*_, _/_, _%_, _≤_, _<_};
 ghost use lib.ListN.{length, take};
 ghost use Rattle.model.specs.Text.{ascii, space, digitText, decimal, hexBytes, line, badLine};
 ghost use Rattle.night_text.specs.Buffer.{laidAt, Puts};
+ghost use Rattle.night_text.specs.Digits.{digitsOf};
 
 const SPACE: u8 = 0x20;
 
 const NEWLINE: u8 = 0x0a;
-
-// A digit's character.
-fn digit(d: u8) -> u8
-    requires { ⌜ d < 16 ⌝ }
-    ensures { λ r. ⌜ r ≡ digitText d ⌝ }
-{
-    if d < 10 {
-        return 0x30 + d;
-    }
-    0x57 + d
-}
 
 // One byte.
 fn put_byte(out: &mut [u8], at: usize, b: u8) -> usize
@@ -31,46 +21,88 @@ fn put_byte(out: &mut [u8], at: usize, b: u8) -> usize
     at + 1
 }
 
-// How many decimal digits a number takes.
-fn digit_count(x: u32) -> usize
-    ensures { λ r. ⌜ r ≡ length (decimal x) ⌝ }
+// Two digits: the compiler makes one store of them.
+fn put_two(out: &mut [u8], at: usize, x: u32) -> usize
+    requires { ⌜ (x < 100) × (at + 2 ≤ length (now out)) ⌝ }
+    ensures { λ r. ⌜ Puts at (digitsOf 2 x) (now (out .entry)) (now (out .exit)) r ⌝ }
 {
-    let mut rest = x;
-    for n in 1..10usize {
-        if rest < 10 {
-            return n;
-        }
-        rest = rest / 10;
-    }
-    10
+    let text = night_digits::two_digits(x);
+    out[at] = (text % 256) as u8;
+    out[at + 1] = (text / 256) as u8;
+    at + 2
 }
 
-// A number of several digits in decimal, its last digit first.
-fn put_digits(out: &mut [u8], at: usize, x: u32) -> usize
+// Three digits.
+fn put_three(out: &mut [u8], at: usize, x: u32) -> usize
+    requires { ⌜ (x < 1000) × (at + 3 ≤ length (now out)) ⌝ }
+    ensures { λ r. ⌜ Puts at (digitsOf 3 x) (now (out .entry)) (now (out .exit)) r ⌝ }
+{
+    let first = night_digits::digit((x / 100) as u8);
+    let at = put_byte(out, at, first);
+    put_two(out, at, x % 100)
+}
+
+// Four digits.
+fn put_four(out: &mut [u8], at: usize, x: u32) -> usize
+    requires { ⌜ (x < 10000) × (at + 4 ≤ length (now out)) ⌝ }
+    ensures { λ r. ⌜ Puts at (digitsOf 4 x) (now (out .entry)) (now (out .exit)) r ⌝ }
+{
+    let at = put_two(out, at, x / 100);
+    put_two(out, at, x % 100)
+}
+
+// A number of up to four digits in decimal.
+fn put_few(out: &mut [u8], at: usize, x: u32) -> usize
+    requires { ⌜ (x < 10000) × (at + length (decimal x) ≤ length (now out)) ⌝ }
+    ensures { λ r. ⌜ Puts at (decimal x) (now (out .entry)) (now (out .exit)) r ⌝ }
+{
+    if 999 < x {
+        return put_four(out, at, x);
+    }
+    if 99 < x {
+        return put_three(out, at, x);
+    }
+    if 9 < x {
+        return put_two(out, at, x);
+    }
+    let d = night_digits::digit(x as u8);
+    put_byte(out, at, d)
+}
+
+// .. of up to eight.
+fn put_many(out: &mut [u8], at: usize, x: u32) -> usize
+    requires { ⌜ (x < 100000000) × (at + length (decimal x) ≤ length (now out)) ⌝ }
+    ensures { λ r. ⌜ Puts at (decimal x) (now (out .entry)) (now (out .exit)) r ⌝ }
+{
+    if x < 10000 {
+        return put_few(out, at, x);
+    }
+    let at = put_few(out, at, x / 10000);
+    put_four(out, at, x % 10000)
+}
+
+// A record's index in decimal.
+fn put_index(out: &mut [u8], at: usize, x: u32) -> usize
     requires { ⌜ at + length (decimal x) ≤ length (now out) ⌝ }
     ensures { λ r. ⌜ Puts at (decimal x) (now (out .entry)) (now (out .exit)) r ⌝ }
 {
-    let n = digit_count(x);
-    let mut rest = x;
-    let mut left = n;
-    while 0 < left {
-        left = left - 1;
-        out[at + left] = digit((rest % 10) as u8);
-        rest = rest / 10;
+    if x < 10000 {
+        return put_few(out, at, x);
     }
-    at + n
+    let at = put_many(out, at, x / 10000);
+    put_four(out, at, x % 10000)
 }
 
-// A number in decimal. Most answers are one digit.
-fn put_decimal(out: &mut [u8], at: usize, x: u32) -> usize
+// An answer in decimal. Most are one digit.
+fn put_answer(out: &mut [u8], at: usize, x: u8) -> usize
     requires { ⌜ at + length (decimal x) ≤ length (now out) ⌝ }
     ensures { λ r. ⌜ Puts at (decimal x) (now (out .entry)) (now (out .exit)) r ⌝ }
 {
     if x < 10 {
-        let d = digit(x as u8);
+        let d = night_digits::digit(x);
         return put_byte(out, at, d);
     }
-    put_digits(out, at, x)
+    put_few(out, at, x as u32)
 }
 
 // A byte as a space and two hex digits.
@@ -78,8 +110,8 @@ fn put_hex_byte(out: &mut [u8], at: usize, b: u8)
     requires { ⌜ at + 3 ≤ length (now out) ⌝ }
     ensures { λ _. ⌜ now (out .exit) ≡ laidAt at (space ∷ digitText (b / 16) ∷ digitText (b % 16) ∷ []) (now (out .entry)) ⌝ }
 {
-    let high = digit(b / 16);
-    let low = digit(b % 16);
+    let high = night_digits::digit(b / 16);
+    let low = night_digits::digit(b % 16);
     out[at] = SPACE;
     out[at + 1] = high;
     out[at + 2] = low;
@@ -108,9 +140,9 @@ pub fn put_line(
     requires { ⌜ (count ≤ length (now bytes)) × (at + length (line index answer (take count (now bytes))) ≤ length (now out)) ⌝ }
     ensures { λ r. ⌜ Puts at (line index answer (take count (now (bytes .entry)))) (now (out .entry)) (now (out .exit)) r ⌝ }
 {
-    let at = put_decimal(out, at, index);
+    let at = put_index(out, at, index);
     let at = put_byte(out, at, SPACE);
-    let at = put_decimal(out, at, answer as u32);
+    let at = put_answer(out, at, answer);
     let at = put_hex(out, at, bytes, count);
     put_byte(out, at, NEWLINE)
 }
@@ -133,6 +165,6 @@ pub fn put_bad(out: &mut [u8], at: usize, answer: u8) -> usize
     ensures { λ r. ⌜ Puts at (badLine answer) (now (out .entry)) (now (out .exit)) r ⌝ }
 {
     let at = put_bad_word(out, at);
-    let at = put_decimal(out, at, answer as u32);
+    let at = put_answer(out, at, answer);
     put_byte(out, at, NEWLINE)
 }

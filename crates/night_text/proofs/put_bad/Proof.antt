@@ -11,7 +11,7 @@ returns : tie.Need-returns
 unfolding badLine ascii
 returns c =
     let room = bad-room (c .before .before .before .before .before .before .before .before .before .before .before .before .before .args .answer) in
-    puts-then (omega arith) (puts-then (omega arith) (c .before .before .before .before .before .before .before .before .before .before .put-bad-word .ensures) (c .before .before .before .before .before .before .put-decimal .ensures)) (c .before .before .put-byte .ensures)
+    puts-then (omega arith) (puts-then (omega arith) (c .before .before .before .before .before .before .before .before .before .before .put-bad-word .ensures) (c .before .before .before .before .before .before .put-answer .ensures)) (c .before .before .put-byte .ensures)
 
 pub put-bad-spec : {M : Type 1} → statement M
 unfolding ascii

@@ -7,8 +7,8 @@ use borrow.Author.Needs.{needs}
 use Rattle.night_text.proofs.put_line.Statement.{statement}
 use Rattle.night_text.proofs.put_line.Tie as tie
 
-put-decimal-requires : tie.Need-put-decimal-requires
-put-decimal-requires c κs =
+put-index-requires : tie.Need-put-index-requires
+put-index-requires c κs =
     let a = c .before .before .before .args in
     omega (arith, line-room (a .index) (a .answer) (a .count) (a .bytes .now) (omega arith))
 
@@ -17,8 +17,8 @@ put-byte-requires c κs =
     let a = c .before .before .before .before .before .before .before .args in
     omega (arith, line-room (a .index) (a .answer) (a .count) (a .bytes .now) (omega arith))
 
-put-decimal-requires-2 : tie.Need-put-decimal-requires-2
-put-decimal-requires-2 c κs =
+put-answer-requires : tie.Need-put-answer-requires
+put-answer-requires c κs =
     let a = c .before .before .before .before .before .before .before .before .before .before .before .args in
     omega (arith, line-room (a .index) (a .answer) (a .count) (a .bytes .now) (omega arith))
 
@@ -37,9 +37,9 @@ returns c =
     let a = c .before .before .before .before .before .before .before .before .before .before .before .before .before .before .before .before .before .before .before .before .before .before .args in
     let room = line-room (a .index) (a .answer) (a .count) (a .bytes .now) (omega arith) in
     let hex = length-hex-taken (a .count) (a .bytes .now) (omega arith) in
-    let index = c .before .before .before .before .before .before .before .before .before .before .before .before .before .before .before .before .before .before .put-decimal .ensures in
+    let index = c .before .before .before .before .before .before .before .before .before .before .before .before .before .before .before .before .before .before .put-index .ensures in
     let space = c .before .before .before .before .before .before .before .before .before .before .before .before .before .before .put-byte .ensures in
-    let answer = c .before .before .before .before .before .before .before .before .before .before .put-decimal2 .ensures in
+    let answer = c .before .before .before .before .before .before .before .before .before .before .put-answer .ensures in
     let bytes = c .before .before .before .before .before .before .put-hex .ensures in
     rw (line-parts (a .index) (a .answer) (take (a .count) (a .bytes .now)))
     (puts-then (omega arith) (puts-then (omega arith) (puts-then (omega arith) (puts-then (omega arith) index space) answer) bytes) (c .before .before .put-byte2 .ensures))
@@ -48,9 +48,9 @@ pub put-line-spec : {M : Type 1} → statement M
 put-line-spec =
     tie.close
     (tie.spec
-    put-decimal-requires
+    put-index-requires
     put-byte-requires
-    put-decimal-requires-2
+    put-answer-requires
     put-hex-requires
     put-byte-requires-2
     (λ c. search needs)
