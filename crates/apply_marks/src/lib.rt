@@ -19,48 +19,23 @@ pub struct Marking {
     pub marked: u8,
 }
 
-// The verdict on a group, given that on another, which may be the same.
-fn judge(
-    image: &[u8],
-    base: usize,
-    kind: Trigger,
-    group: u8,
-    other: u8,
-    verdict: Verdict,
-) -> Verdict
-    requires { ⌜ (length (now image) ≡ imageLength) × (base + setLength ≤ imageLength) × (verdict ≡ verdictOf kind (viewOf base (now image)) other) ⌝ }
-    ensures { λ r. ⌜ r ≡ verdictOf kind (viewOf base (now (image .entry))) group ⌝ }
-{
-    if group == other {
-        return verdict;
-    }
-    apply_verdicts::verdict_of(image, base, kind, group)
-}
-
 // The lanes and their records as the trigger marks them, all from the state before any is marked.
 pub fn mark(image: &[u8], w: Working, kind: Trigger, set: StagedSet, selected: u8) -> Marking
     requires { ⌜ length (now image) ≡ imageLength ⌝ }
     ensures { λ r. ⌜ Marks kind set (viewOf (stagedBase set) (now (image .entry))) w selected laneCount r ⌝ }
 {
-    let base = set.base();
     let busy = records::busy_lanes(w);
+    let plan = apply_plans::plan(image, kind, set, busy, selected);
+    let marked = plan.marked;
     let mut working = w;
-    let mut marked = 0u8;
-    let mut last = 0u8;
-    let mut verdict = Verdict::Pass(LaneRecord::COUNT);
     for lane in 0..LaneRecord::COUNT {
-        if bits_sets::is_in(selected, lane) {
-            let group = apply_groups::group_of(image, base, selected, lane);
-            if !bits_sets::meets(group, busy) {
-                verdict = judge(image, base, kind, group, last, verdict);
-                last = group;
-                let stage = apply_held::marked_stage(image, kind, set, lane, group, verdict);
-                let i = lane as usize;
-                let own = working.lanes[i];
-                let after = records::with_stage(own, stage);
-                working.lanes[i] = after;
-                marked = bits_sets::with_lane(marked, lane, true);
-            }
+        if bits_sets::is_in(marked, lane) {
+            let i = lane as usize;
+            let own = working.lanes[i];
+            let given = plan.given[i];
+            let stage = given.stage;
+            let after = records::with_stage(own, stage);
+            working.lanes[i] = after;
         }
     }
     Marking { working, marked }

@@ -1,0 +1,3 @@
+-- What the crate's proofs cite.
+pub mod Groups
+pub mod Laws

@@ -1,0 +1,2 @@
+-- What is known of a group, and what planning has come to.
+pub mod Plans
