@@ -1,6 +1,6 @@
 -- A plain write leaves the lanes' records, and is put from its first place on. Assumes nothing.
 use mathlib.Core.Path.{_≡_, refl, sym, ap, _∙_}
-use mathlib.Core.Bool.{Bool, true, not, _||_}
+use mathlib.Core.Bool.{Bool, true, false, not, _||_}
 use mathlib.Core.List.{List, [], _∷_}
 use Prim.Native.Nat.{ℕ, suc, _+_, _-_, _≤_, _<_}
 use native.Mathlib.Nat.{add-zero, add-suc}
@@ -10,9 +10,9 @@ use lib.Dec.{eqb, leb, ltb}
 use lib.ListN.{length, getD, drop}
 use lib.Seq.{getD-set-other, drop-cons, drop-length}
 use borrow.Author.Tests.{lt-ltb, le-ltb, ltb-false, leb-false, eqb-true, ne-eqb, not-true}
-use Rattle.bits.specs.Choice.{pick, either}
-use Rattle.bits.proofs.Tests.{split, either-l, either-r, or-either}
-use Rattle.model.specs.Map.{Image, moduleControls, pageSelect, triggerAt, writable}
+use Rattle.bits.specs.Choice.{pick, both, either}
+use Rattle.bits.proofs.Tests.{split, not-not, not-ltb, either-l, either-r, or-either}
+use Rattle.model.specs.Map.{Image, moduleControls, pageSelect, applyDPInit0, applyImmediate0, applyDPInit1, applyImmediate1, triggerAt, writable}
 use Rattle.model.specs.Pages.{selectedStart, indexOf}
 use Rattle.model.specs.Access.{withoutReset, storedBy, storedState, byteWrittenState, bytesWrittenState, halfEnd}
 use Rattle.model.specs.State.{State, stateWith}
@@ -121,3 +121,20 @@ module _ (bytes : List ℕ) where
   pub put-end : (i : ℕ) (x : Image) → bytesPut i (drop (length bytes) bytes) x ≡ x
   unfolding bytesPut
   put-end i x = rw (drop-length bytes)
+
+-- neither pair of triggers is met
+unmet : (p q r : Bool) → not (either (either (both p false) (both q false)) r) ≡ not r
+unfolding both either
+unmet true true r = refl
+unmet true false r = refl
+unmet false true r = refl
+unmet false false r = refl
+
+-- a write in lower memory is plain past lower 26
+pub lower-plain : (x : Image) (a n : ℕ) → a < 128 → a + n ≤ halfEnd a → ltb moduleControls a ≡ isPlain (indexOf x a) n
+unfolding isPlain meetsTriggers indexOf halfEnd pick
+lower-plain x a n l h =
+    let t : ltb a 128 ≡ true = lt-ltb a 128 l in
+    let fits : a + n ≤ 128 = rw (t, pick) at h in
+    rw (t, pick, le-ltb applyDPInit0 (a + n) (omega arith), le-ltb applyDPInit1 (a + n) (omega arith))
+    (sym (unmet (leb a applyImmediate0) (leb a applyImmediate1) (leb a moduleControls) ∙ ap not (sym (not-ltb moduleControls a)) ∙ not-not (ltb moduleControls a)))

@@ -84,13 +84,25 @@ pub fn write_each(image: &mut [u8], w: Working, address: u8, bytes: &[u8]) -> Wo
 }
 
 // Whether a write of n bytes from an address on meets neither a trigger nor lower 26: its bytes are then put and no more.
-pub fn is_plain(image: &[u8], address: u8, n: usize) -> bool
+fn is_plain(image: &[u8], address: u8, n: usize) -> bool
     requires { ⌜ (length (now image) ≡ imageLength) × (n < 2 ^ 32) ⌝ }
     ensures { λ r. ⌜ r ≡ isPlain (indexOf (now (image .entry)) address) n ⌝ }
 {
     let first = address as usize;
     let i = pages::half_start(image, first) + first % map::PAGE_LENGTH;
     !(map::meets_triggers(i, n) | (i <= map::MODULE_CONTROLS))
+}
+
+// The same of a write that ends in its own half of memory: in lower memory it meets no trigger.
+pub fn is_plain_write(image: &[u8], address: u8, n: usize) -> bool
+    requires { ⌜ (length (now image) ≡ imageLength) × (address + n ≤ halfEnd address) ⌝ }
+    ensures { λ r. ⌜ r ≡ isPlain (indexOf (now (image .entry)) address) n ⌝ }
+{
+    let first = address as usize;
+    if first < map::PAGE_LENGTH {
+        return map::MODULE_CONTROLS < first;
+    }
+    is_plain(image, address, n)
 }
 
 // The bytes of a plain write: its half of memory starts where it did to the end.

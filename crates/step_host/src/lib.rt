@@ -37,7 +37,7 @@ fn write_bytes(image: &mut [u8], w: Working, address: u8, bytes: &[u8]) -> Worki
     requires { ⌜ (length (now image) ≡ imageLength) × (address + length (now bytes) ≤ halfEnd address) ⌝ }
     ensures { λ r. ⌜ IsState (settledState (endedState address (now (bytes .entry)) (length (now (bytes .entry))) (bytesWrittenState address (now (bytes .entry)) (stateWith (now (image .entry)) w)))) (now (image .exit)) r ⌝ }
 {
-    if access_writes::is_plain(image, address, bytes.len()) {
+    if access_writes::is_plain_write(image, address, bytes.len()) {
         write_plain(image, address, bytes);
         return w;
     }

@@ -1,8 +1,6 @@
 -- `step_host::write_bytes` meets its contract. Assumes nothing.
 use borrow.Author.Needs.{needs}
 use mathlib.Core.Path.{sym, _∙_}
-use native.Mathlib.Omega.{arith}
-use Rattle.access_limits.proofs.Halves.{half-ends}
 use Rattle.step_host.proofs.Ends.{plain-ended, write-ended}
 use Rattle.step_host.proofs.write_bytes.Statement.{statement}
 use Rattle.step_host.proofs.write_bytes.Tie as tie
@@ -10,7 +8,7 @@ use Rattle.step_host.proofs.write_bytes.Tie as tie
 returns : tie.Need-returns
 returns c =
     let s = c .before .before .before .before .before .before .before .before .before in
-    plain-ended _ _ _ _ _ (s .pre .1) (sym (c .before .before .before .before .before .is-plain .ensures) ∙ c .before .before .before .before .if1 .taken) (c .before .before .write-plain .ensures)
+    plain-ended _ _ _ _ _ (s .pre .1) (sym (c .before .before .before .before .before .is-plain-write .ensures) ∙ c .before .before .before .before .if1 .taken) (c .before .before .write-plain .ensures)
 
 returns-2 : tie.Need-returns-2
 returns-2 c = write-ended _ _ _ (c .before .before .before .before .before .before .before .before .before .before .write-each .ensures) (c .before .before .before .before .before .before .end-write .ensures) (c .before .before .settle .ensures)
@@ -19,7 +17,7 @@ pub write-bytes-spec : {M : Type 1} → statement M
 write-bytes-spec =
     tie.close
     (tie.spec
-    (λ c κs. (search needs, omega (arith, half-ends (c .before .before .before .args .address))))
+    (λ c κs. search needs)
     (λ c κs. search needs)
     (λ c. search needs)
     returns
