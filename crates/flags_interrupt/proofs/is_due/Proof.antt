@@ -1,50 +1,35 @@
 -- `flags_interrupt::is_due` meets its contract. Assumes nothing.
-use mathlib.Core.Path.{_≡_}
-use Prim.Native.Nat.{_+_, _-_, _≤_}
+use denote.Ref.{now}
 use native.Mathlib.Omega.{arith}
 use borrow.Author.Needs.{needs}
-use Rattle.model.specs.Map.{moduleFlags, moduleMasks, flagBytes, flagMasks}
-use Rattle.flags_interrupt.proofs.Search.{Gathered, gathered-begin, gathered-turn, gathered-end}
+use Prim.Native.Nat.{_-_}
+use lib.Bits.{bitAnd, and-le-l, and-le-r}
+use lib.ListN.{getD}
+use Rattle.model.specs.Map.{moduleFlags, moduleMasks, modulePair}
+use Rattle.flags_interrupt.proofs.Search.{gathered}
 use Rattle.flags_interrupt.proofs.is_due.Statement.{statement}
 use Rattle.flags_interrupt.proofs.is_due.Tie as tie
 
-abbrev Inv-loop : tie.InvT-loop
-Inv-loop image due₀ k₀ due k = (k ≤ 20) × Gathered image due k
+cast-result : tie.Need-cast-result
+cast-result c =
+    let x = now (c .before .before .before .before .before .before .args .image) in
+    omega (arith, and-le-l (bitAnd (getD x moduleFlags 0) (modulePair .bits)) (255 - getD x moduleMasks 0), and-le-r (getD x moduleFlags 0) (modulePair .bits))
 
-abbrev μ-loop : tie.MeasureT-loop
-μ-loop image due₀ k₀ due k = 20 - k
-
-loop-again : tie.Need-loop-again Inv-loop μ-loop
-loop-again c =
-    let k = c .before .before .before .loop .k in (
-      search needs,
-      gathered-turn _ (c .before .before .before .loop .due) k
-          (omega (arith, c .shared-slice-known2 .given (flagBytes + k)))
-          (omega (arith, c .shared-slice-known2 .given (flagMasks + k)))
-          (c .before .before .before .loop .inv .1),
-    )
-
-returns : tie.Need-returns Inv-loop μ-loop
+returns : tie.Need-returns
 returns c =
-    let l = c .before .before .before .loop in
-    let e : l .k ≡ 20 = omega arith in
-    gathered-end _ (l .due) (omega (arith, c .shared-slice-known4 .given moduleFlags)) (omega (arith, c .shared-slice-known4 .given moduleMasks))
-    (rw e at (l .inv .1))
+    let s = c .before .before .before .before .before .before .args in
+    gathered (now (s .image)) (c .before .before .open8 .result) (c .before .open82 .result) (c .open4 .result) (λ i. omega (arith, c .before .before .before .shared-slice-known3 .given i)) (c .before .before .open8 .ensures)
+    (c .before .open82 .ensures) (c .open4 .ensures)
 
 pub is-due-spec : {M : Type 1} → statement M
 is-due-spec =
     tie.close
     (tie.spec
-    Inv-loop
-    μ-loop
-    (λ c. (search needs, gathered-begin _))
     (λ c. search needs)
     (λ c. search needs)
+    (λ c κs. search needs)
+    (λ c κs. search needs)
+    (λ c κs. search needs)
     (λ c. search needs)
-    (λ c. search needs)
-    (λ c. search needs)
-    (λ c. search needs)
-    loop-again
-    (λ c. search needs)
-    (λ c. search needs)
+    cast-result
     returns)

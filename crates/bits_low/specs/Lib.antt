@@ -1,0 +1,2 @@
+-- Numbers of several bytes, the low byte first.
+pub mod LowFirst

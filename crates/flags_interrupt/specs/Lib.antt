@@ -1,0 +1,2 @@
+-- The flag bytes against their masks.
+pub mod Open
