@@ -7,11 +7,10 @@ use Rattle.bits.specs.Lane.{laneField}
 use Rattle.bits.specs.Loop.{each}
 use Rattle.bits.specs.Place.{get, put}
 use Rattle.bits.specs.Sets.{has}
-use Rattle.model.specs.Map.{Image, activeSet, stateAt, stateChangedFlag, stateBytes}
+use Rattle.model.specs.Map.{Image, stateAt, stateChangedFlag, stateBytes}
 use Rattle.model.specs.PathStates.{codeOf, stateOf, resting}
-use Rattle.model.specs.View.{settingsOf, pathOf}
 use Rattle.model.specs.Registers.{withPending, withPathState, withFlags}
-use Rattle.model.specs.Hardware.{signalsOf, nextState, isInitialized, enteredImage, movedImage, movedPathImage, hardwareImage}
+use Rattle.model.specs.Hardware.{signalsOf, nextState, isInitialized, enteredImage, movedImage, movedPathImage}
 use Rattle.model.specs.declared.path.PathState.{PathState}
 use Rattle.model.specs.declared.path.Signals.{Signals}
 
@@ -20,7 +19,7 @@ pub entered-by : (g v : ℕ) (from to : PathState) (x x₁ x₂ x₃ : Image) �
 unfolding enteredImage withPathState
 entered-by g v from to x x₁ x₂ x₃ p q r s = rw (s, r, q, p)
 
-pub moved-by : (down : Bool) (l g n : ℕ) (from to : PathState) (by : Signals) (x y : Image) → g ≡ pathOf (settingsOf activeSet x) l → n ≡ get x (stateAt l) → from ≡ stateOf n
-    → by ≡ signalsOf down x g → to ≡ nextState from by → y ≡ movedImage g from to x → y ≡ hardwareImage down x l
-unfolding hardwareImage movedPathImage
-moved-by down l g n from to by x y hg hn hf hb ht hy = rw (hy, ht, hb, hf, hn, hg)
+pub moved-by : (down : Bool) (l g n : ℕ) (from to : PathState) (by : Signals) (x y : Image) → n ≡ get x (stateAt l) → from ≡ stateOf n
+    → by ≡ signalsOf down x g → to ≡ nextState from by → y ≡ movedImage g from to x → y ≡ movedPathImage down x g (stateOf (get x (stateAt l)))
+unfolding movedPathImage
+moved-by down l g n from to by x y hn hf hb ht hy = rw (hy, ht, hb, hf, hn)

@@ -3,11 +3,12 @@ ghost use mathlib.Core.Path.{_≡_};
 ghost use Prim.Native.Nat.{_<_};
 ghost use lib.ListN.{length};
 ghost use Rattle.bits.specs.Choice.{onlyIf};
+ghost use Rattle.bits.specs.Place.{get};
 ghost use Rattle.bits.specs.Sets.{has, laneCount};
-ghost use Rattle.model.specs.Map.{stateChangedFlag, imageLength};
-ghost use Rattle.model.specs.PathStates.{resting};
+ghost use Rattle.model.specs.Map.{stateChangedFlag, stateAt, imageLength};
+ghost use Rattle.model.specs.PathStates.{stateOf, resting};
 ghost use Rattle.model.specs.Registers.{withPending, withFlags};
-ghost use Rattle.model.specs.Hardware.{isInitialized, enteredImage, movedImage, hardwareImage};
+ghost use Rattle.model.specs.Hardware.{isInitialized, enteredImage, movedImage, movedPathImage};
 use model::path::PathState;
 
 // Whether DPInitialized is reached from DPInit.
@@ -57,12 +58,11 @@ fn move_to(image: &mut [u8], path: u8, from: PathState, to: PathState)
     }
 }
 
-// A hardware event on the path of a lane, in a module that holds every path down or does not.
-pub fn move_path(image: &mut [u8], down: bool, lane: u8)
+// A hardware event on a path, by the state of one of its lanes, in a module that holds every path down or does not.
+pub fn move_path(image: &mut [u8], down: bool, path: u8, lane: u8)
     requires { ⌜ (length (now image) ≡ imageLength) × (lane < laneCount) ⌝ }
-    ensures { λ _. ⌜ now (image .exit) ≡ hardwareImage down (now (image .entry)) lane ⌝ }
+    ensures { λ _. ⌜ now (image .exit) ≡ movedPathImage down (now (image .entry)) path (stateOf (get (now (image .entry)) (stateAt lane))) ⌝ }
 {
-    let path = view_paths::path_of(image, lane);
     let from = PathState::of(bits_lanes::nibble(image, map::STATES, lane));
     let to = hardware_table::next_state(from, hardware_signals::signals_of(image, down, path));
     move_to(image, path, from, to);

@@ -50,6 +50,31 @@ pub fn is_in_progress(stage: Stage) -> bool
     }
 }
 
+// Whether the Apply of a record is under way.
+fn is_record_busy(r: LaneRecord) -> bool
+    ensures { λ b. ⌜ b ≡ isInProgress (r .stage) ⌝ }
+{
+    let stage = r.stage;
+    is_in_progress(stage)
+}
+
+// Whether a lane is in progress. Each lane has an arm of its own: an index that is not a constant would lay all records out in memory.
+pub fn is_busy(w: Working, lane: u8) -> bool
+    requires { ⌜ lane < laneCount ⌝ }
+    ensures { λ r. ⌜ r ≡ isInProgress (stageAt w lane) ⌝ }
+{
+    match lane {
+        0 => is_record_busy(w.lanes[0]),
+        1 => is_record_busy(w.lanes[1]),
+        2 => is_record_busy(w.lanes[2]),
+        3 => is_record_busy(w.lanes[3]),
+        4 => is_record_busy(w.lanes[4]),
+        5 => is_record_busy(w.lanes[5]),
+        6 => is_record_busy(w.lanes[6]),
+        _ => is_record_busy(w.lanes[7]),
+    }
+}
+
 // The lanes in progress.
 pub fn busy_lanes(w: Working) -> u8
     ensures { λ r. ⌜ r ≡ maskOf laneCount (λ l. isInProgress (stageAt w l)) ⌝ }

@@ -1,23 +1,22 @@
 -- The answer to each kind of event, from the code's tests. Assumes nothing.
-use mathlib.Core.Path.{_≡_, ap, ap₂, _∙_}
-use mathlib.Core.Bool.{Bool, true, false, not, _||_}
+use mathlib.Core.Path.{_≡_, ap, _∙_}
+use mathlib.Core.Bool.{Bool, true, false, not}
 use Prim.Native.Nat.{ℕ, _≤_, _<_}
 use borrow.Author.Tests.{lt-ltb, le-ltb}
-use Rattle.bits.specs.Choice.{either}
+use Rattle.bits.specs.Choice.{both, either}
 use Rattle.bits.specs.Sets.{has, maskOf, someIn}
-use Rattle.bits.proofs.Loops.{any-ext}
+use Rattle.bits.proofs.Loops.{any-ext, none-any}
 use Rattle.bits.proofs.Masks.{has-mask}
-use Rattle.bits.proofs.Tests.{or-either}
+use Rattle.bits.proofs.Tests.{either-i-l}
 use Rattle.model.specs.Map.{Image, activeSet}
 use Rattle.model.specs.Records.{stageAt, isInProgress, anyInProgress}
-use Rattle.model.specs.View.{of, settingsOf, isUsed, pathOf}
+use Rattle.model.specs.View.{of, settingsOf, isUsed, samePath, pathOf}
 use Rattle.model.specs.State.{State, stateWith}
 use Rattle.model.specs.Flags.{isConditionFlag}
 use Rattle.model.specs.Access.{isBadAccess, writeLimit, readLimit}
 use Rattle.model.specs.Refusals.{firstOf, noSuchLane, isBusy, isUnused, eventRefusals}
 use Rattle.model.specs.declared.answer.Answer.the-variants.{Done, BadAccess, ShortBuffer, NothingOnLane, Busy, NoSuchTarget}
 use Rattle.model.specs.declared.event.Call.the-variants.{Write, Read, Work, Hardware, Condition, Sample, Lasting, Module, Line}
-use Rattle.model.specs.declared.lane.Stage.{Stage}
 use Rattle.model.specs.declared.lane.Working.{Working}
 use Rattle.model.proofs.Refused.{first-here, first-next, first-none}
 
@@ -29,14 +28,22 @@ no-lane : (l : ℕ) → 8 ≤ l → noSuchLane l ≡ true
 unfolding noSuchLane
 no-lane l h = ap not (le-ltb l 8 h)
 
--- a lane is busy where it is in progress, or its path shares a lane with those that are
-pub busy-by : (x : Image) (w : Working) (l g b : ℕ) (t : Stage) (p q : Bool) → g ≡ pathOf (settingsOf activeSet x) l
-    → b ≡ maskOf 8 (λ m. isInProgress (stageAt w m)) → t ≡ stageAt w l → p ≡ isInProgress t → q ≡ someIn g (has b) → (p || q) ≡ isBusy (stateWith x w) l
-unfolding isBusy anyInProgress someIn
-busy-by x w l g b t p q hg hb ht hp hq =
-    or-either p q
-    ∙ ap₂ either (hp ∙ ap isInProgress ht)
-    (hq ∙ rw (← hg) (any-ext 8 _ _ (λ m d. rw (hb, has-mask 8 (λ k. isInProgress (stageAt w k)) m d))))
+-- a lane that is in progress is busy
+pub busy-own : (x : Image) (w : Working) (l : ℕ) → isInProgress (stageAt w l) ≡ true → isBusy (stateWith x w) l ≡ true
+unfolding isBusy
+busy-own x w l e = either-i-l _ _ e
+
+-- another is where its path shares a lane with those that are
+pub busy-by : (x : Image) (w : Working) (l g b : ℕ) (q : Bool) → isInProgress (stageAt w l) ≡ false → g ≡ pathOf (settingsOf activeSet x) l
+    → b ≡ maskOf 8 (λ m. isInProgress (stageAt w m)) → q ≡ someIn g (has b) → q ≡ isBusy (stateWith x w) l
+unfolding isBusy anyInProgress someIn either
+busy-by x w l g b q e hg hb hq = rw e (hq ∙ rw (← hg) (any-ext 8 _ _ (λ m d. rw (hb, has-mask 8 (λ k. isInProgress (stageAt w k)) m d))))
+
+-- an unused one has no path
+pub busy-unused : (x : Image) (w : Working) (l : ℕ) → isInProgress (stageAt w l) ≡ false → isUsed (of (settingsOf activeSet x) l) ≡ false
+    → isBusy (stateWith x w) l ≡ false
+unfolding isBusy anyInProgress either pathOf samePath both
+busy-unused x w l e u = rw e (none-any 8 _ (λ m d. rw (has-mask 8 (samePath (settingsOf activeSet x) l) m d, u)))
 
 module _ (room : ℕ) (s : State) (l : ℕ) where
   -- a work step: 8, then 6

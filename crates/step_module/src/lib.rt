@@ -1,18 +1,15 @@
 // The module's own events, on a module whose image has its length: the refusals 8, 7 and 6, then what the event does, then lower 3.0.
 ghost use mathlib.Core.Path.{_≡_};
 ghost use mathlib.Core.List.{[]};
-ghost use Prim.Native.Nat.{_<_};
 ghost use lib.ListN.{length};
 ghost use Rattle.contracts.specs.Contracts.{IsOutcome};
 ghost use Rattle.model.specs.State.{stateWith};
 ghost use Rattle.model.specs.Outcome.{stepOutcome};
-ghost use Rattle.model.specs.Refusals.{isBusy};
 ghost use Rattle.model.specs.Step.{step};
 ghost use Rattle.model.specs.Work.{early};
 ghost use Rattle.model.specs.declared.event.Call.the-variants.{Work, Hardware, Condition, Sample, Lasting, Module, Line};
 ghost use Rattle.contracts.specs.Asked.{asked};
 ghost use Rattle.model.specs.Map.{imageLength};
-ghost use Rattle.bits.specs.Sets.{laneCount};
 use contracts::Returned;
 use model::answer::Answer;
 use model::lane::LaneRecord;
@@ -26,7 +23,7 @@ pub fn work(image: &mut [u8], w: Working, lane: u8) -> Returned
     if LaneRecord::COUNT <= lane {
         return contracts::reply(Answer::NoSuchTarget, w);
     }
-    if !records::is_in_progress(records::stage_at(w, lane)) {
+    if !records::is_busy(w, lane) {
         return contracts::reply(Answer::NothingOnLane, w);
     }
     let worked = work::work(image, w, lane);
@@ -39,17 +36,7 @@ pub fn work(image: &mut [u8], w: Working, lane: u8) -> Returned
     }
 }
 
-// Whether a lane is in progress, or its path has such a lane.
-fn is_busy(image: &[u8], w: Working, lane: u8) -> bool
-    requires { ⌜ (length (now image) ≡ imageLength) × (lane < laneCount) ⌝ }
-    ensures { λ r. ⌜ r ≡ isBusy (stateWith (now (image .entry)) w) lane ⌝ }
-{
-    let path = view_paths::path_of(image, lane);
-    let busy = records::busy_lanes(w);
-    records::is_in_progress(records::stage_at(w, lane)) | bits_sets::meets(path, busy)
-}
-
-// A hardware event on the path of a lane.
+// A hardware event on the path of a lane. What is cheap is asked first: a lane in progress is busy, an unused one has no path.
 pub fn hardware(image: &mut [u8], w: Working, lane: u8) -> Returned
     requires { ⌜ length (now image) ≡ imageLength ⌝ }
     ensures { λ r. ⌜ IsOutcome (stepOutcome (step early 0 (stateWith (now (image .entry)) w) (asked (Hardware lane))) []) r (now (image .exit)) [] ⌝ }
@@ -57,16 +44,22 @@ pub fn hardware(image: &mut [u8], w: Working, lane: u8) -> Returned
     if LaneRecord::COUNT <= lane {
         return contracts::reply(Answer::NoSuchTarget, w);
     }
-    if is_busy(image, w, lane) {
+    if records::is_busy(w, lane) {
         return contracts::reply(Answer::Busy, w);
     }
     if !view_paths::used_at(image, map::ACTIVE_SET, lane) {
         return contracts::reply(Answer::NothingOnLane, w);
     }
-    let down = power_signals::holds_down(image, w.line);
-    hardware_moves::move_path(image, down, lane);
-    flags_interrupt::settle(image);
-    contracts::reply(Answer::Done, w)
+    let path = view_paths::path_of(image, lane);
+    let busy = records::busy_lanes(w);
+    if bits_sets::meets(path, busy) {
+        contracts::reply(Answer::Busy, w)
+    } else {
+        let down = power_signals::holds_down(image, w.line);
+        hardware_moves::move_path(image, down, path, lane);
+        flags_interrupt::settle(image);
+        contracts::reply(Answer::Done, w)
+    }
 }
 
 // A condition that comes once, and sets bits of a flag byte.

@@ -7,7 +7,6 @@ use Rattle.hardware_moves.proofs.move_path.Tie as tie
 returns : tie.Need-returns
 returns c =
     moved-by _ _ _ _ _ _ _ _ _
-    (c .before .before .before .before .before .before .before .before .before .before .path-of .ensures)
     (c .before .before .before .before .before .before .before .before .nibble .ensures)
     (c .before .before .before .before .before .before .before .of .ensures)
     (c .before .before .before .before .before .signals-of .ensures)
@@ -17,7 +16,6 @@ pub move-path-spec : {M : Type 1} → statement M
 move-path-spec =
     tie.close
     (tie.spec
-    (λ c κs. search needs)
     (λ c κs. search needs)
     (λ c κs. search needs)
     (λ c κs. search needs)

@@ -1,9 +1,8 @@
 -- `step_module::work` meets its contract. Assumes nothing.
 use borrow.Author.Needs.{needs}
-use mathlib.Core.Path.{refl, sym, ap, _∙_}
+use mathlib.Core.Path.{refl, sym, _∙_}
 use borrow.Author.Tests.{not-true, not-false}
 use Rattle.model.specs.Answers.{isDone}
-use Rattle.model.specs.Records.{isInProgress}
 use Rattle.model.specs.Step.{eventEffect}
 use Rattle.model.specs.Outcome.{laidOver}
 use Rattle.model.specs.declared.answer.Answer.the-variants.{NoSuchTarget, NothingOnLane}
@@ -16,14 +15,14 @@ returns-2 : tie.Need-returns-2
 unfolding isDone
 returns-2 c =
     refused-leaves _ _ _ _ NothingOnLane _
-    (work-idle _ _ _ (c .before .before .before .before .if1 .left) (sym (c .before .before .is-in-progress .ensures ∙ ap isInProgress (c .before .before .before .stage-at .ensures)) ∙ not-true _ (c .before .if2 .taken)))
+    (work-idle _ _ _ (c .before .before .before .if1 .left) (sym (c .before .before .is-busy .ensures) ∙ not-true _ (c .before .if2 .taken)))
     refl (c .reply2 .ensures)
 
 returns-3 : tie.Need-returns-3
 unfolding eventEffect laidOver
 returns-3 c =
-    let lane = c .before .before .before .before .before .before .before .before .before .before .before .before .if1 .left in
-    let busy = c .before .before .before .before .before .before .before .before .before .before .is-in-progress .ensures ∙ ap isInProgress (c .before .before .before .before .before .before .before .before .before .before .before .stage-at .ensures) in
+    let lane = c .before .before .before .before .before .before .before .before .before .before .before .if1 .left in
+    let busy = c .before .before .before .before .before .before .before .before .before .before .is-busy .ensures in
     let w = c .before .before .before .before .before .before .before .work .ensures in
     done-leaves _ _ _ _ _ _ _ _ _ (work-done _ _ _ lane (sym busy ∙ not-false _ (c .before .before .before .before .before .before .before .before .before .if2 .left)))
     refl refl (w .image) (c .before .before .settle .ensures) (w .working) (rw (work-reads-nothing _ _)) (w .mask)
@@ -35,7 +34,6 @@ work-spec =
     (tie.spec
     (λ c κs. search needs)
     (λ c. refused-leaves _ _ _ _ NoSuchTarget _ (work-nowhere _ _ _ (c .before .if1 .taken)) refl (c .reply .ensures))
-    (λ c κs. search needs)
     (λ c κs. search needs)
     (λ c κs. search needs)
     returns-2
