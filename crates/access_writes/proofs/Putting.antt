@@ -22,8 +22,8 @@ use Rattle.model.specs.declared.lane.Working.{Working}
 use Rattle.model.specs.declared.lane.TriggerPlace.the-variants.{NoTrigger, Applies}
 use Rattle.model.proofs.Starts.{start-past}
 use Rattle.model.proofs.Triggers.{at-row, no-trigger-below}
-use Rattle.map.specs.Meets.{meetsTriggers}
-use Rattle.map.proofs.Triggers.{clear-place}
+use Rattle.map_triggers.specs.Meets.{meetsTriggers}
+use Rattle.map_triggers.proofs.Triggers.{clear-place}
 use Rattle.access_writes.specs.Puts.{isPlain, bytePut, bytesPut}
 
 -- a byte of another index than 26 is stored whole

@@ -6,7 +6,7 @@ use lib.Dec.{eqb, leb}
 use lib.ListN.{set}
 use Rattle.bits.specs.Choice.{pick, either}
 use Rattle.model.specs.Map.{Image, moduleControls, pageSelect, writable}
-use Rattle.map.specs.Meets.{meetsTriggers}
+use Rattle.map_triggers.specs.Meets.{meetsTriggers}
 use Rattle.model.specs.Pages.{selectedImage}
 
 -- none of n places from i on is a trigger's, and all lie past lower 26

@@ -49,7 +49,7 @@ fn write_at(image: &mut [u8], w: Working, start: usize, offset: usize, v: u8) ->
     ensures { λ r. ⌜ IsState (storedState (start + offset) v (stateWith (now (image .entry)) w)) (now (image .exit)) r ⌝ }
 {
     let i = start + offset;
-    match map::trigger_at(i) {
+    match map_triggers::trigger_at(i) {
         TriggerPlace::NoTrigger => {
             put_byte(image, start, offset, map::without_reset(i, v));
             w
@@ -90,7 +90,7 @@ fn is_plain(image: &[u8], address: u8, n: usize) -> bool
 {
     let first = address as usize;
     let i = pages::half_start(image, first) + first % map::PAGE_LENGTH;
-    !(map::meets_triggers(i, n) | (i <= map::MODULE_CONTROLS))
+    !(map_triggers::meets_triggers(i, n) | (i <= map::MODULE_CONTROLS))
 }
 
 // The same of a write that ends in its own half of memory: in lower memory it meets no trigger.

@@ -1,3 +1,2 @@
 -- What the tests of the register map compute.
 pub mod Ranges
-pub mod Triggers

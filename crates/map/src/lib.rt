@@ -1,16 +1,10 @@
 // The register map in code: where each page and each lane register starts, and which bytes of the image keep a write, are cleared by a read, or are kept by start.
 ghost use mathlib.Core.Path.{_≡_};
-ghost use Prim.Native.Nat.{_+_, _^_, _≤_, _<_};
+ghost use Prim.Native.Nat.{_+_, _≤_, _<_};
 ghost use lib.Dec.{leb, ltb};
 ghost use Rattle.bits.specs.Choice.{both};
-ghost use Rattle.model.specs.Map.{imageLength, pageLength, on, flagBytes, flagByteCount, lastingCount, lastingFlag, lastingIndex, triggerAt, writable, clearing, kept};
+ghost use Rattle.model.specs.Map.{imageLength, pageLength, on, flagBytes, flagByteCount, lastingCount, lastingFlag, lastingIndex, writable, clearing, kept};
 ghost use Rattle.model.specs.Access.{withoutReset};
-ghost use Rattle.model.specs.declared.lane.TriggerPlace.the-variants.{Applies};
-ghost use Rattle.map.specs.Meets.{meetsTriggers};
-use model::lane::Apply;
-use model::lane::StagedSet;
-use model::lane::Trigger;
-use model::lane::TriggerPlace;
 
 // The image: lower memory, then six pages; a page's addresses start at UPPER.
 pub const IMAGE_LENGTH: usize = 896;
@@ -53,20 +47,12 @@ pub const HIGH_WARNING: usize = PAGE_02 + (196 - 128);
 
 pub const LOW_WARNING: usize = PAGE_02 + (198 - 128);
 
-// Page 10h: DPDeinit, OutputDisableTx and OutputSquelchForceTx, a bit a lane; the triggers ApplyDPInit and ApplyImmediate of the two staged sets.
+// Page 10h: DPDeinit, OutputDisableTx and OutputSquelchForceTx, a bit a lane.
 pub const DEINIT: usize = PAGE_10 + (128 - 128);
 
 pub const OUTPUT_DISABLE: usize = PAGE_10 + (130 - 128);
 
 pub const SQUELCH_FORCE: usize = PAGE_10 + (132 - 128);
-
-const APPLY_DP_INIT_0: usize = PAGE_10 + (143 - 128);
-
-const APPLY_IMMEDIATE_0: usize = PAGE_10 + (144 - 128);
-
-const APPLY_DP_INIT_1: usize = PAGE_10 + (178 - 128);
-
-const APPLY_IMMEDIATE_1: usize = PAGE_10 + (179 - 128);
 
 // Page 11h: DPState, a nibble a lane; DPStateChanged, a bit a lane; ConfigStatus, a nibble a lane; the active settings; DPInitPending, a bit a lane.
 pub const STATES: usize = PAGE_11 + (128 - 128);
@@ -76,7 +62,7 @@ pub const STATE_CHANGED: usize = PAGE_11 + (134 - 128);
 // .. its flag bytes: where they start in the image, and how many there are.
 pub const FLAG_BYTES: usize = PAGE_11 + (134 - 128);
 
-pub const FLAG_BYTE_COUNT: u8 = 20;
+const FLAG_BYTE_COUNT: u8 = 20;
 
 // .. the flags that can last, counted from 0: the address of each of the first, those of Tx, is FIRST_LASTING and its number, of each other, those of Rx, LATER_LASTING
 // and its number.
@@ -134,35 +120,6 @@ pub fn meets_flags(i: usize, n: usize) -> bool
     ensures { λ r. ⌜ r ≡ both (ltb i (flagBytes + flagByteCount)) (ltb flagBytes (i + n)) ⌝ }
 {
     (i < FLAG_BYTES + (FLAG_BYTE_COUNT as usize)) & (FLAG_BYTES < i + n)
-}
-
-// A trigger of a staged set at its place.
-fn applies(trigger: Trigger, set: StagedSet) -> TriggerPlace
-    ensures { λ r. ⌜ r ≡ Applies (record { trigger = trigger; set = set }) ⌝ }
-{
-    TriggerPlace::Applies(Apply { trigger, set })
-}
-
-// What a place is to the triggers.
-pub fn trigger_at(i: usize) -> TriggerPlace
-    ensures { λ r. ⌜ r ≡ triggerAt i ⌝ }
-{
-    match i {
-        APPLY_DP_INIT_0 => applies(Trigger::DpInit, StagedSet::Set0),
-        APPLY_IMMEDIATE_0 => applies(Trigger::Immediate, StagedSet::Set0),
-        APPLY_DP_INIT_1 => applies(Trigger::DpInit, StagedSet::Set1),
-        APPLY_IMMEDIATE_1 => applies(Trigger::Immediate, StagedSet::Set1),
-        _ => TriggerPlace::NoTrigger,
-    }
-}
-
-// Whether one of n bytes from an index on is a trigger.
-pub fn meets_triggers(i: usize, n: usize) -> bool
-    requires { ⌜ i + n < 2 ^ 64 ⌝ }
-    ensures { λ r. ⌜ r ≡ meetsTriggers i n ⌝ }
-{
-    ((i <= APPLY_IMMEDIATE_0) & (APPLY_DP_INIT_0 < i + n))
-        | ((i <= APPLY_IMMEDIATE_1) & (APPLY_DP_INIT_1 < i + n))
 }
 
 // Whether an index is one of from .. to.

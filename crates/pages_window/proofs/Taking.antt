@@ -16,7 +16,7 @@ use Rattle.model.specs.Access.{withoutReset, shownByte, takenBytes}
 use Rattle.model.specs.Outcome.{laidOver}
 use Rattle.model.specs.declared.lane.Apply.{Apply}
 use Rattle.model.specs.declared.lane.TriggerPlace.the-variants.{NoTrigger, Applies}
-use Rattle.map.proofs.Triggers.{clear-place}
+use Rattle.map_triggers.proofs.Triggers.{clear-place}
 use Rattle.pages_window.specs.Hidden.{meetsHidden}
 
 -- ---- what is shown of a byte

@@ -19,7 +19,7 @@ fn shown(image: &[u8], i: usize) -> u8
     ensures { λ r. ⌜ r ≡ shownByte (now (image .entry)) i ⌝ }
 {
     let v = image[i];
-    match map::trigger_at(i) {
+    match map_triggers::trigger_at(i) {
         TriggerPlace::NoTrigger => map::without_reset(i, v),
         TriggerPlace::Applies(_) => 0,
     }
@@ -30,7 +30,7 @@ fn meets_hidden(i: usize, n: usize) -> bool
     requires { ⌜ i + n < 2 ^ 64 ⌝ }
     ensures { λ r. ⌜ r ≡ meetsHidden i n ⌝ }
 {
-    (i <= map::MODULE_CONTROLS) | map::meets_triggers(i, n)
+    (i <= map::MODULE_CONTROLS) | map_triggers::meets_triggers(i, n)
 }
 
 // Bytes from an index on, each as a read shows it, into the front of the buffer.

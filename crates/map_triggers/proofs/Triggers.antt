@@ -9,7 +9,7 @@ use Rattle.bits.specs.Choice.{pick, both}
 use Rattle.bits.proofs.Tests.{split, either-l, either-r}
 use Rattle.model.specs.Map.{applyDPInit0, applyImmediate0, applyDPInit1, applyImmediate1, findTrigger, triggerAt}
 use Rattle.model.specs.declared.lane.TriggerPlace.the-variants.{NoTrigger}
-use Rattle.map.specs.Meets.{meetsTriggers}
+use Rattle.map_triggers.specs.Meets.{meetsTriggers}
 
 -- a place that is no trigger's
 pub other-place : (i : ℕ) → eqb i applyDPInit0 ≡ false → eqb i applyImmediate0 ≡ false → eqb i applyDPInit1 ≡ false → eqb i applyImmediate1 ≡ false

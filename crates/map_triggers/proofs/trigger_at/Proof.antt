@@ -1,12 +1,12 @@
--- `map::trigger_at` meets its contract: each arm's place is a row's. Assumes nothing.
+-- `map_triggers::trigger_at` meets its contract: each arm's place is a row's. Assumes nothing.
 use mathlib.Core.Path.{sym, _∙_}
 use borrow.Author.Tests.{ne-eqb}
 use Rattle.bits.specs.Choice.{pick}
 use Rattle.model.specs.Map.{findTrigger, triggerAt}
-use Rattle.map.proofs.Triggers.{other-place}
+use Rattle.map_triggers.proofs.Triggers.{other-place}
 use borrow.Author.Needs.{needs}
-use Rattle.map.proofs.trigger_at.Statement.{statement}
-use Rattle.map.proofs.trigger_at.Tie as tie
+use Rattle.map_triggers.proofs.trigger_at.Statement.{statement}
+use Rattle.map_triggers.proofs.trigger_at.Tie as tie
 
 returns-5 : tie.Need-returns-5
 returns-5 c =

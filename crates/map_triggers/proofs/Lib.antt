@@ -1,0 +1,2 @@
+-- Laws of the triggers' places.
+pub mod Triggers
