@@ -1,0 +1,2 @@
+-- The working state as bytes.
+pub mod Packing
