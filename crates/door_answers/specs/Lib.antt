@@ -1,0 +1,2 @@
+-- What a call of firmware leaves.
+pub mod Door

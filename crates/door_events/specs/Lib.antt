@@ -1,0 +1,2 @@
+-- The write that lent bytes ask for.
+pub mod Writes
