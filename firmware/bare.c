@@ -1,5 +1,5 @@
-/* What compiled code asks of the world where there is no C library: the memory functions, on Arm by the names of its run-time ABI too, and for cores that cannot
- * divide the two forms of a division. Nothing here is proved. Compile it with -ffreestanding -fno-builtin, or its loops become calls of themselves. */
+/* What compiled code asks of the world where there is no C library: the memory functions, on Arm by the names of its run-time ABI too, and a division for cores
+ * that have none. Nothing here is proved. Compile it with -ffreestanding -fno-builtin, or its loops become calls of themselves. */
 
 typedef __SIZE_TYPE__ size;
 

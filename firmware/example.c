@@ -1,5 +1,5 @@
-/* The night of nights/example-ready.txt by calls: Application 1 is set up on lanes 0 to 3, the module powered up, the path moved. It prints a line for each call, as
- * `./replay nights/example-ready.night` does: the call's index, its answer, and the bytes that were read. */
+/* The night of nights/example-ready.txt by calls: Application 1 is set up on lanes 0 to 3, the module powered up, the path moved. It prints a line for each
+ * call, as `./replay nights/example-ready.night` does: the call's index, its answer, and the bytes that were read. */
 #include "lines.h"
 #include "registers.h"
 

@@ -1,5 +1,5 @@
-/* Replays night files by calls, as the program night does: standard input holds well-formed night files one behind the other, and their lines are printed in that
- * order. It holds the library against night on every target; it does not judge files. */
+/* Replays night files by calls, as the program night does: standard input holds well-formed night files one behind the other, and their lines are printed in
+ * that order. It is there to hold the library against night on every target; it does not judge files. */
 #include "lines.h"
 #include "machine.h"
 #include "registers.h"

@@ -68,4 +68,6 @@ static void fault(void)
 }
 
 /* The stack, then the handlers: reset, NMI, hard fault. */
-__attribute__((section(".vectors"), used)) static const void *const vectors[4] = { stack_top, (const void *)machine_reset, (const void *)fault, (const void *)fault };
+__attribute__((section(".vectors"), used)) static const void *const vectors[] = {
+    stack_top, (const void *)machine_reset, (const void *)fault, (const void *)fault,
+};
