@@ -1,6 +1,6 @@
 /* Holds the header against the library that it is linked with: each length by what is answered at it and one beside it, each answer by a call that gets it, the
- * lanes to be commissioned, the bytes that no call may touch, and numbers with something above their own bits. It prints what is wrong; 'N passed, M failed' is
- * its last line. */
+ * lanes to be commissioned, the bytes that no call may touch, and numbers with something above their own bits; then bare.c, by some sums. It prints what is
+ * wrong; 'N passed, M failed' is its last line. */
 #include "lines.h"
 #include "registers.h"
 
@@ -122,11 +122,15 @@ static void flags(void)
 {
     static const registers_u8 named[] = { REGISTERS_FAILURE_TX, REGISTERS_LOS_TX, REGISTERS_CDR_LOL_TX, REGISTERS_ADAPTIVE_EQ_FAIL_TX, REGISTERS_LOS_RX,
                                           REGISTERS_CDR_LOL_RX };
-    unsigned taken = 0;
+    registers_u8 is_named[256];
+    unsigned same = 0;
     begin();
-    for (unsigned flag = 0; flag < 256; ++flag)
-        taken += registers_condition(IMAGE, STATE, (registers_u8)flag, 0) == REGISTERS_DONE;
-    hold("as many flag bytes as are named", taken == sizeof named);
+    fill(is_named, sizeof is_named, 0);
+    for (unsigned k = 0; k < sizeof named; ++k)
+        is_named[named[k]] = 1;
+    for (unsigned flag = 0; flag < sizeof is_named; ++flag)
+        same += is_named[flag] == (registers_condition(IMAGE, STATE, (registers_u8)flag, 0) == REGISTERS_DONE);
+    hold("those flag bytes that are named", same == sizeof is_named);
     write_byte(127, 0x11);
     for (unsigned k = 0; k < sizeof named; ++k) {
         hold("a condition", registers_condition(IMAGE, STATE, named[k], 0x81) == REGISTERS_DONE);
@@ -181,6 +185,23 @@ static void narrow(void)
     hold("bytes are read", buffer[0] == 0x44 && buffer[1] == 0x11 && buffer[2] == MARK);
 }
 
+/* What bare.c provides where the processor has no instruction for it. */
+static void arithmetic(void)
+{
+    volatile registers_u64 one = 0xfedcba9876543210, other = 0x123456789abcdef1;
+    volatile registers_u32 number = 0xfedcba98, by = 1000;
+    volatile int shift = 0;
+    hold("a product", one * other == 0x224a4396cc6d0110);
+    hold("a quotient", number / by == 4275878 && number % by == 552);
+    hold("a shift by 0", one << shift == 0xfedcba9876543210 && one >> shift == 0xfedcba9876543210);
+    shift = 4;
+    hold("a shift by 4", one << shift == 0xedcba98765432100 && one >> shift == 0x0fedcba987654321);
+    shift = 32;
+    hold("a shift by 32", one << shift == 0x7654321000000000 && one >> shift == 0xfedcba98);
+    shift = 60;
+    hold("a shift by 60", one << shift == 0 && one >> shift == 0xf);
+}
+
 int main(void)
 {
     lengths();
@@ -188,6 +209,7 @@ int main(void)
     flags();
     commissioning();
     narrow();
+    arithmetic();
     put_tally(passed, failed);
     return failed != 0;
 }
