@@ -99,13 +99,45 @@ static void lengths(void)
     hold("a lane too many", registers_sample(IMAGE, STATE, REGISTERS_LANES, 65535) == REGISTERS_BAD_NAME);
 }
 
+/* A page that the host selects, read whole: whether it lies where the header says, and a byte there is what it should be. */
+static void page(const char *what, registers_u8 number, unsigned place, registers_u8 address, registers_u8 byte)
+{
+    unsigned same = 0;
+    write_byte(127, number);
+    registers_read(IMAGE, STATE, 128, 128, BUFFER);
+    for (unsigned k = 0; k < 128; ++k)
+        same += buffer[k] == image[place + k];
+    hold(what, image[127] == number && same == 128 && buffer[address - 128] == byte);
+}
+
+static void places(void)
+{
+    begin();
+    image[REGISTERS_PAGE_00H(200)] = 0x77;
+    image[REGISTERS_PAGE_01H(200)] = 0x01;
+    image[REGISTERS_PAGE_02H(200)] = 0x02;
+    write_byte(127, 0x10);
+    write_byte(145, 0x10);
+    registers_sample(IMAGE, STATE, 3, 0x11);
+    write_byte(127, 0x9f);
+    write_byte(200, 0x9f);
+    page("page 00h", 0x00, REGISTERS_PAGE_00H(128), 200, 0x77);
+    page("page 01h", 0x01, REGISTERS_PAGE_01H(128), 200, 0x01);
+    page("page 02h", 0x02, REGISTERS_PAGE_02H(128), 200, 0x02);
+    page("page 10h", 0x10, REGISTERS_PAGE_10H(128), 145, 0x10);
+    page("page 11h", 0x11, REGISTERS_PAGE_11H(128), 193, 0x11);
+    page("page 9Fh", 0x9f, REGISTERS_PAGE_9FH(128), 200, 0x9f);
+    registers_read(IMAGE, STATE, 88, 2, BUFFER);
+    hold("lower memory", buffer[0] == image[REGISTERS_LOWER(88)] && buffer[1] == 0x11);
+}
+
 static void answers(void)
 {
     begin();
     image[2] = 0x80;
     hold("flat", registers_move_module(IMAGE, STATE) == REGISTERS_FLAT && registers_start(IMAGE, STATE) == REGISTERS_FLAT);
     image[2] = 0;
-    image[384 + 194 - 128] = 1;
+    image[REGISTERS_PAGE_02H(194)] = 1;
     hold("limits out of order", registers_start(IMAGE, STATE) == REGISTERS_BAD_LIMITS);
     begin();
     hold("idle: work", registers_work(IMAGE, STATE, 0) == REGISTERS_IDLE);
@@ -176,10 +208,10 @@ static void narrow(void)
     hold("lane with bits above it", ((wide_call *)any)(IMAGE, STATE, above | 7) == REGISTERS_IDLE);
     any = (void (*)(void))registers_sample;
     hold("power with bits above it", ((wide_sample *)any)(IMAGE, STATE, above | 3, 0xdead0102) == REGISTERS_DONE);
-    hold("power is stored", image[640 + 192 - 128] == 1 && image[640 + 193 - 128] == 2);
+    hold("power is stored", image[REGISTERS_PAGE_11H(192)] == 1 && image[REGISTERS_PAGE_11H(193)] == 2);
     any = (void (*)(void))registers_lasting;
     hold("masks with bits above them", ((wide_lasting *)any)(IMAGE, STATE, above | 135, above | 0x05, above | 0x02) == REGISTERS_DONE);
-    hold("masks are taken", image[640 + 135 - 128] == 0x05);
+    hold("masks are taken", image[REGISTERS_PAGE_11H(135)] == 0x05);
     any = (void (*)(void))registers_read;
     hold("address with bits above it", ((wide_read *)any)(IMAGE, STATE, above | 88, above | 2, BUFFER) == REGISTERS_DONE);
     hold("bytes are read", buffer[0] == 0x44 && buffer[1] == 0x11 && buffer[2] == MARK);
@@ -205,6 +237,7 @@ static void arithmetic(void)
 int main(void)
 {
     lengths();
+    places();
     answers();
     flags();
     commissioning();

@@ -45,6 +45,15 @@ typedef uint64_t registers_u64;
 /* Lanes count from 0. */
 #define REGISTERS_LANES 8
 
+/* The place in an image of an address: 0 to 127 of lower memory, 128 to 255 of a page. Looking there changes nothing and is not a host's read. */
+#define REGISTERS_LOWER(address) (address)
+#define REGISTERS_PAGE_00H(address) (address)
+#define REGISTERS_PAGE_01H(address) ((address) + 128)
+#define REGISTERS_PAGE_02H(address) ((address) + 256)
+#define REGISTERS_PAGE_10H(address) ((address) + 384)
+#define REGISTERS_PAGE_11H(address) ((address) + 512)
+#define REGISTERS_PAGE_9FH(address) ((address) + 640)
+
 /* What a result holds. */
 #define REGISTERS_ANSWER(result) ((registers_u8)(result))
 #define REGISTERS_COMMISSION(result) ((registers_u8)((result) >> 8))
