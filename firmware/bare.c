@@ -3,30 +3,38 @@
  * themselves. */
 
 typedef __SIZE_TYPE__ size;
+typedef __UINTPTR_TYPE__ place;
+typedef unsigned word __attribute__((may_alias));
+
+/* Words where both places are those of words, then bytes. */
+void *memcpy(void *to, const void *from, size count)
+{
+    unsigned char *t = to;
+    const unsigned char *f = from;
+    if (((place)to | (place)from) % sizeof(word) == 0)
+        for (; count >= sizeof(word); count -= sizeof(word), t += sizeof(word), f += sizeof(word))
+            *(word *)(void *)t = *(const word *)(const void *)f;
+    for (; count > 0; --count)
+        *t++ = *f++;
+    return to;
+}
 
 void *memmove(void *to, const void *from, size count)
 {
     unsigned char *t = to;
     const unsigned char *f = from;
-    if (t < f)
-        for (size k = 0; k < count; ++k)
-            t[k] = f[k];
-    else
-        for (size k = count; k > 0; --k)
-            t[k - 1] = f[k - 1];
+    if (t <= f)
+        return memcpy(to, from, count);
+    for (; count > 0; --count)
+        t[count - 1] = f[count - 1];
     return to;
-}
-
-void *memcpy(void *to, const void *from, size count)
-{
-    return memmove(to, from, count);
 }
 
 void *memset(void *to, int byte, size count)
 {
     unsigned char *t = to;
-    for (size k = 0; k < count; ++k)
-        t[k] = (unsigned char)byte;
+    for (; count > 0; --count)
+        *t++ = (unsigned char)byte;
     return to;
 }
 
@@ -44,7 +52,7 @@ __asm__(".eabi_attribute 28, 3");
     void __aeabi_##name##8 takes { does; }
 
 IN_EACH_FORM(memmove, (void *to, const void *from, size count), memmove(to, from, count))
-IN_EACH_FORM(memcpy, (void *to, const void *from, size count), memmove(to, from, count))
+IN_EACH_FORM(memcpy, (void *to, const void *from, size count), memcpy(to, from, count))
 IN_EACH_FORM(memset, (void *to, size count, int byte), memset(to, byte, count))
 IN_EACH_FORM(memclr, (void *to, size count), memset(to, 0, count))
 
