@@ -1,6 +1,6 @@
-/* Holds the header against the library that it is linked with: each length by what is answered at it and one beside it, each answer by a call that gets it, the
- * lanes to be commissioned, the bytes that no call may touch, and numbers with something above their own bits; then bare.c, by some sums. It prints what is
- * wrong; 'N passed, M failed' is its last line. */
+/* Holds the header against the library that it is linked with: each length by what is answered at it and one beside it, each answer by a call that gets it,
+ * pages by what a host reads there, the lanes to be commissioned, the bytes that no call may touch, numbers with something above their own bits, slices at any
+ * place; then bare.c, by some sums. It prints what is wrong; 'N passed, M failed' is its last line. */
 #include "lines.h"
 #include "registers.h"
 
@@ -217,6 +217,35 @@ static void narrow(void)
     hold("bytes are read", buffer[0] == 0x44 && buffer[1] == 0x11 && buffer[2] == MARK);
 }
 
+/* Slices may lie at any place: the same calls leave the same bytes at an image, a state and a buffer that are each so far off a word. */
+static void anywhere(unsigned off)
+{
+    static registers_u8 room[3][REGISTERS_IMAGE_LENGTH + 8];
+    static const registers_u8 staged[] = { 0, 0x10, 0x10, 0x10, 0x10 };
+    registers_u8 *other = room[0] + off, *others = room[1] + off, *into = room[2] + off;
+    unsigned same = 0;
+    begin();
+    fill(other, REGISTERS_IMAGE_LENGTH, 0);
+    other[88] = 0x44;
+    other[89] = 0x11;
+    registers_start(other, REGISTERS_IMAGE_LENGTH, others, REGISTERS_STATE_LENGTH);
+    for (unsigned twice = 0; twice < 2; ++twice) {
+        registers_u8 *lent = twice ? other : image, *kept = twice ? others : state, *to = twice ? into : buffer;
+        registers_u8 page_10h = 0x10, trigger = 0x0f;
+        registers_write(lent, REGISTERS_IMAGE_LENGTH, kept, REGISTERS_STATE_LENGTH, 127, &page_10h, 1);
+        registers_write(lent, REGISTERS_IMAGE_LENGTH, kept, REGISTERS_STATE_LENGTH, 145, staged + 1, 4);
+        registers_write(lent, REGISTERS_IMAGE_LENGTH, kept, REGISTERS_STATE_LENGTH, 143, &trigger, 1);
+        registers_work(lent, REGISTERS_IMAGE_LENGTH, kept, REGISTERS_STATE_LENGTH, 1);
+        registers_sample(lent, REGISTERS_IMAGE_LENGTH, kept, REGISTERS_STATE_LENGTH, 6, 0x1234);
+        registers_lasting(lent, REGISTERS_IMAGE_LENGTH, kept, REGISTERS_STATE_LENGTH, REGISTERS_LOS_RX, 0x55, 0xaa);
+        registers_move_module(lent, REGISTERS_IMAGE_LENGTH, kept, REGISTERS_STATE_LENGTH);
+        registers_read(lent, REGISTERS_IMAGE_LENGTH, kept, REGISTERS_STATE_LENGTH, 128, 128, to, REGISTERS_READ_LIMIT);
+    }
+    for (unsigned k = 0; k < REGISTERS_IMAGE_LENGTH; ++k)
+        same += image[k] == other[k] && (k >= REGISTERS_STATE_LENGTH || state[k] == others[k]) && (k >= REGISTERS_READ_LIMIT || buffer[k] == into[k]);
+    hold("slices at any place", same == REGISTERS_IMAGE_LENGTH && work(1) == REGISTERS_DONE);
+}
+
 /* What bare.c provides where the processor has no instruction for it. */
 static void arithmetic(void)
 {
@@ -242,6 +271,8 @@ int main(void)
     flags();
     commissioning();
     narrow();
+    for (unsigned off = 0; off < 8; ++off)
+        anywhere(off);
     arithmetic();
     put_tally(passed, failed);
     return failed != 0;
