@@ -62,7 +62,7 @@ typedef uint64_t registers_u64;
 #define REGISTERS_DONE 0         /* the call is done */
 #define REGISTERS_BAD_LENGTH 1   /* the image is not REGISTERS_IMAGE_LENGTH bytes long */
 #define REGISTERS_FLAT 2         /* lower 2.7 is 1: flat memory */
-#define REGISTERS_UNSOUND 3      /* state is too short, or image and state are none that calls from a start can leave; start does not ask */
+#define REGISTERS_UNSOUND 3      /* state is too short or holds no state, or image and state do not fit together: never after a start; start does not ask */
 #define REGISTERS_BAD_ACCESS 4   /* no bytes, more than 8 written or 128 read, or beyond the half of memory (last address 127 or 255) it begins in */
 #define REGISTERS_SHORT_BUFFER 5 /* a read's buffer is shorter than its count; at start: state is shorter than REGISTERS_STATE_LENGTH */
 #define REGISTERS_IDLE 6         /* a work step where the lane has no Apply under way, or a hardware event where it is on no path */
