@@ -1,2 +1,3 @@
 -- What a read clears.
 pub mod Cleared
+pub mod Runs

@@ -1,4 +1,4 @@
--- `access_reads::clear` meets its contract. Assumes nothing.
+-- `access_reads::clear_each` meets its contract. Assumes nothing.
 use mathlib.Core.Path.{_≡_, sym, ap, _∙_}
 use mathlib.Core.Logic.{⊎-elim}
 use Prim.Native.Nat.{_+_, _-_, _≤_}
@@ -9,8 +9,8 @@ use Rattle.bits.proofs.Loops.{each-begin, each-turn, each-pass}
 use Rattle.model.specs.Map.{imageLength, clearing}
 use Rattle.model.specs.Access.{clearedImage}
 use borrow.Author.Needs.{needs}
-use Rattle.access_reads.proofs.clear.Statement.{statement}
-use Rattle.access_reads.proofs.clear.Tie as tie
+use Rattle.access_reads.proofs.clear_each.Statement.{statement}
+use Rattle.access_reads.proofs.clear_each.Tie as tie
 
 abbrev Inv-loop : tie.InvT-loop
 Inv-loop image₀ i n k₀ image k =
@@ -34,8 +34,8 @@ returns c =
     let e : c .before .loop .k ≡ c .before .before .before .args .n = omega arith in
     rw e at (c .before .loop .inv .2)
 
-pub clear-spec : {M : Type 1} → statement M
-clear-spec =
+pub clear-each-spec : {M : Type 1} → statement M
+clear-each-spec =
     tie.close
     (tie.spec
     Inv-loop
