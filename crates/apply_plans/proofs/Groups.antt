@@ -1,22 +1,16 @@
--- A group is the same from each of its lanes, and a lane that is not there has none. Assumes nothing.
+-- A group is the same from each of its lanes. Assumes nothing.
 use mathlib.Core.Path.{_≡_, refl, sym, ap, _∙_}
-use mathlib.Core.Bool.{Bool, true, false, not}
+use mathlib.Core.Bool.{Bool, true, false}
 use mathlib.Core.Logic.{⊎-elim}
 use mathlib.Core.List.{List}
 use Prim.Native.Nat.{ℕ, _<_}
-use native.Mathlib.Omega.{arith}
-use borrow.Author.Tests.{not-true, eqb-true, eq-eqb, ne-eqb}
+use borrow.Author.Tests.{not-true, eqb-true, eq-eqb}
 use lib.Dec.{eqb}
 use Rattle.bits.specs.Choice.{pick, both, either}
-use Rattle.bits.specs.Number.{field}
 use Rattle.bits.specs.Sets.{has, maskOf, laneCount}
-use Rattle.bits.proofs.Loops.{tab-past}
-use Rattle.bits.proofs.Masks.{has-mask, mask-ext, mask-of-has}
-use Rattle.bits.proofs.Sets.{has-zero}
+use Rattle.bits.proofs.Masks.{has-mask, mask-ext}
 use Rattle.bits.proofs.Tests.{split, bool-eq, both-l, both-r, either-cases, either-i-r}
-use Rattle.model.specs.Map.{Image, activeSet}
-use Rattle.model.specs.Records.{noSettings}
-use Rattle.model.specs.View.{View, appSel, of, isUsed, pathId, samePath, settingsAt, settingsOf, viewOf}
+use Rattle.model.specs.View.{View, of, isUsed, pathId, samePath}
 use Rattle.model.specs.Groups.{joined, releasedWith, inGroup, groupOf}
 use Rattle.model.specs.declared.lane.Settings.{Settings}
 
@@ -91,19 +85,3 @@ module _ (v : View) (g k l : ℕ) where
   group-same e b =
       let i : inGroup v g k l ≡ true = among e b in
       split (isUsed (of (v .staged) k)) (λ u. set-up u (joined-lane u i)) (λ u. released u (released-lane u i))
-
--- past the last lane nothing is used
-unused-past : (base : ℕ) (x : Image) → isUsed (of (settingsOf base x) laneCount) ≡ false
-unfolding settingsOf isUsed appSel field
-unused-past base x = rw (tab-past laneCount (settingsAt base x) laneCount noSettings (omega arith))
-
-pub group-none : (base : ℕ) (x : Image) (g : ℕ) → 0 ≡ groupOf (viewOf base x) g laneCount
-unfolding groupOf inGroup releasedWith samePath viewOf pick both either
-group-none base x g = sym
-    (mask-ext laneCount _ (has 0) (λ m b. rw (unused-past base x, pick, unused-past activeSet x, both, ne-eqb laneCount m (omega arith), either, has-zero m) (none (has g m) (not (isUsed (of (settingsOf base x) m)))))
-    ∙ mask-of-has laneCount 0 (omega arith))
-  where
-    none : (a b : Bool) → both a (both b false) ≡ false
-    none true true = refl
-    none true false = refl
-    none false b = refl

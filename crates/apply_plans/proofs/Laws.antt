@@ -1,23 +1,21 @@
 -- What is known of a group holds for each of its lanes; which lanes are planned, and planning lane by lane. Assumes nothing.
 use mathlib.Core.Path.{_≡_, refl, sym, ap, _∙_}
 use mathlib.Core.Bool.{Bool, true, false, not}
-use Prim.Native.Nat.{ℕ, _+_, _<_}
+use Prim.Native.Nat.{ℕ, zero, suc, _+_, _≤_, _<_}
 use native.Mathlib.Numerals.{add-one}
 use native.Mathlib.Omega.{arith}
 use borrow.Author.Tests.{not-true}
 use mir.Val.{boolByte}
 use lib.ListN.{set}
 use Rattle.bits.specs.Choice.{pick, both}
-use Rattle.bits.specs.Loop.{each, tab, seek}
-use Rattle.bits.specs.Number.{field, withField}
-use Rattle.bits.specs.Sets.{has, maskOf, nextIn, laneCount, firstIn, someIn}
-use Rattle.bits.proofs.Loops.{each-begin, each-turn, each-pass, none-any}
-use Rattle.bits.proofs.Masks.{mask-lt}
+use Rattle.bits.specs.Loop.{each, tab}
+use Rattle.bits.specs.Number.{withField}
+use Rattle.bits.specs.Sets.{has, maskOf, nextIn, laneCount, someIn}
+use Rattle.bits.proofs.Loops.{each-begin, each-turn, each-pass}
+use Rattle.bits.proofs.Masks.{mask-lt, next-skips, next-bound}
 use Rattle.bits.proofs.Number.{back, field-past}
-use Rattle.bits.proofs.Sets.{has-zero}
 use Rattle.bits.proofs.Tests.{pick-false}
 use Rattle.bits.proofs.Turns.{mask-begin, mask-turn}
-use Rattle.apply_verdicts.proofs.Laws.{verdict-none}
 use Rattle.view_settings.proofs.View.{settings-of}
 use Rattle.model.specs.Map.{Image, stagedBase}
 use Rattle.model.specs.Records.{progressOf}
@@ -35,7 +33,7 @@ use Rattle.apply_plans.specs.declared.Found.{Found}
 use Rattle.apply_plans.specs.declared.Given.{Given}
 use Rattle.apply_plans.specs.declared.Planned.{Planned}
 use Rattle.apply_plans.specs.Plans.{knownOf, foundFor, isPlanned, given, Plans}
-use Rattle.apply_plans.proofs.Groups.{group-same, group-none}
+use Rattle.apply_plans.proofs.Groups.{group-same}
 
 -- ---- groups
 
@@ -62,24 +60,6 @@ pub found-own : (t : Trigger) (v : View) (busy selected l : ℕ) (f : Found) →
 unfolding foundFor knownOf
 found-own t v busy selected l f e = e ∙ ap (foundFor t v busy selected) (sym (ap (λ q. q .lane) e))
 
--- the empty set has no lane, and none in progress
-first-none : firstIn 0 ≡ laneCount
-unfolding nextIn seek pick has field
-first-none = refl
-
-none-busy : (busy : ℕ) → someIn 0 (has busy) ≡ false
-unfolding someIn both
-none-busy busy = none-any laneCount _ (λ m b. rw (has-zero m, both))
-
--- before any lane: the group of a lane that is not there
-pub found-first : (t : Trigger) (base : ℕ) (x : Image) (busy selected : ℕ)
-    → record { lane = laneCount; group = 0; free = true; verdict = Pass laneCount } ≡ foundFor t (viewOf base x) busy selected laneCount
-unfolding foundFor
-found-first t base x busy selected =
-    rw (← (group-none base x selected))
-    (known-free t (viewOf base x) busy laneCount 0 (Pass laneCount) (none-busy busy)
-    (ap Pass (sym first-none) ∙ verdict-none t base x 0 (omega (arith, first-none))))
-
 -- ---- lane by lane
 
 pub unselected : (v : View) (busy selected l : ℕ) → has selected l ≡ false → isPlanned v busy selected l ≡ false
@@ -90,6 +70,10 @@ pub selected-free : (t : Trigger) (v : View) (busy selected l : ℕ) (f : Found)
     → f .free ≡ b → isPlanned v busy selected l ≡ b
 unfolding isPlanned both foundFor knownOf
 selected-free t v busy selected l f b e h p = rw (e, both) (sym (ap (λ q. q .free) h) ∙ p)
+
+-- nothing planned yet
+abbrev pub none : Planned
+none = record { marked = 0; given = tab laneCount (λ l. given Idle) }
 
 mask-pass : (p : ℕ → Bool) (n : ℕ) → p n ≡ false → maskOf n p ≡ maskOf (n + 1) p
 unfolding maskOf
@@ -104,7 +88,7 @@ module _ (t : Trigger) (staged : StagedSet) (x : Image) (busy selected : ℕ) wh
   abbrev v : View
   v = viewOf base x
 
-  pub plan-begin : Plans t staged v busy selected 0 (record { marked = 0; given = tab laneCount (λ l. given Idle) })
+  plan-begin : Plans t staged v busy selected 0 none
   plan-begin = record { marked = mask-begin _; given = each-begin _ _ _ }
 
   module _ (n : ℕ) (p : Planned) where
@@ -134,3 +118,17 @@ module _ (t : Trigger) (staged : StagedSet) (x : Image) (busy selected : ℕ) wh
           marked = mask-turn _ n (p .marked) k true (h .marked) (sym e) z;
           given = rw (stage-by f own b q r s) (each-turn _ _ n _ (p .given) (h .given) e);
         }
+
+  -- lanes that are not to be marked, from the first on
+  plan-skip : (n : ℕ) → ((l : ℕ) → l < n → isPlanned v busy selected l ≡ false) → Plans t staged v busy selected n none
+  plan-skip zero h = plan-begin
+  plan-skip (suc n) h = rw (add-one n) at (plan-pass n none (h n (omega arith)) (plan-skip n (λ l b. h l (omega arith))))
+
+  -- up to the first selected lane there are none
+  pub plan-first : (first : ℕ) → first ≡ nextIn laneCount selected 0 → Plans t staged v busy selected first none
+  plan-first first e = plan-skip first (λ l b. unselected v busy selected l (next-skips laneCount selected 0 l (omega arith) (rw e at b)))
+
+  pub plan-empty : (first : ℕ) → first ≡ nextIn laneCount selected 0 → laneCount ≤ first → Plans t staged v busy selected laneCount none
+  plan-empty first e h =
+      let all : first ≡ laneCount = omega (arith, e, next-bound laneCount selected 0 (omega arith)) in
+      rw all at (plan-first first e)

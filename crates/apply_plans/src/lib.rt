@@ -53,6 +53,15 @@ fn judged(image: &[u8], base: usize, kind: Trigger, busy: u8, lane: u8, group: u
     }
 }
 
+// The group of a lane, and what there is to know of it.
+fn find_anew(image: &[u8], base: usize, kind: Trigger, busy: u8, selected: u8, lane: u8) -> Found
+    requires { ⌜ (length (now image) ≡ imageLength) × (base + setLength ≤ imageLength) × (lane < laneCount) ⌝ }
+    ensures { λ r. ⌜ r ≡ foundFor kind (viewOf base (now (image .entry))) busy selected lane ⌝ }
+{
+    let group = apply_groups::group_of(image, base, selected, lane);
+    judged(image, base, kind, busy, lane, group)
+}
+
 // The group of a lane, where the one found last is known: if the lane is in it, that is its group.
 fn find(
     image: &[u8],
@@ -76,11 +85,11 @@ fn find(
             verdict,
         };
     }
-    let own = apply_groups::group_of(image, base, selected, lane);
-    judged(image, base, kind, busy, lane, own)
+    find_anew(image, base, kind, busy, selected, lane)
 }
 
-// The lanes that a trigger of a staged set marks among the selected ones, where those in progress are known, and their stages.
+// The lanes that a trigger of a staged set marks among the selected ones, where those in progress are known, and their stages. The first group is found before
+// the lanes are looked at one by one.
 pub fn plan(image: &[u8], kind: Trigger, set: StagedSet, busy: u8, selected: u8) -> Planned
     requires { ⌜ length (now image) ≡ imageLength ⌝ }
     ensures { λ r. ⌜ Plans kind set (viewOf (stagedBase set) (now (image .entry))) busy selected laneCount r ⌝ }
@@ -89,13 +98,12 @@ pub fn plan(image: &[u8], kind: Trigger, set: StagedSet, busy: u8, selected: u8)
     let mut marked = 0u8;
     let none = Given { stage: Stage::Idle };
     let mut given = [none; 8];
-    let mut last = Found {
-        lane: LaneRecord::COUNT,
-        group: 0,
-        free: true,
-        verdict: Verdict::Pass(LaneRecord::COUNT),
-    };
-    for lane in 0..LaneRecord::COUNT {
+    let first = bits_sets::next_in(selected, 0);
+    if LaneRecord::COUNT <= first {
+        return Planned { marked, given };
+    }
+    let mut last = find_anew(image, base, kind, busy, selected, first);
+    for lane in first..LaneRecord::COUNT {
         if bits_sets::is_in(selected, lane) {
             last = find(image, base, kind, busy, selected, lane, last);
             if last.free {
