@@ -39,9 +39,11 @@ fn raise(image: &mut [u8], test: bool, flag: u8, lane: u8)
     requires { ⌜ (length (now image) ≡ imageLength) × (128 ≤ flag) × (lane < laneCount) ⌝ }
     ensures { λ _. ⌜ now (image .exit) ≡ raisedImage test flag lane (now (image .entry)) ⌝ }
 {
-    if test {
-        bits_lanes::put_lane_bit(image, map::on(map::PAGE_11, flag), lane, 1);
-    }
+    bits_together::set_bits(
+        image,
+        map::on(map::PAGE_11, flag),
+        bits_sets::with_lane(0, lane, test),
+    );
 }
 
 // A limit of received power: two bytes, the high one first.

@@ -1,0 +1,2 @@
+-- A flag that is raised on one lane, or on none.
+pub mod OneLane
