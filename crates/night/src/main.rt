@@ -1,14 +1,17 @@
-// Replays the night file on standard input: the whole of it is checked, and then fed in one piece.
+// Replays the night file on standard input: the whole of it is checked, and then its records are played.
 ghost use mathlib.Core.Path.{_≡_};
 ghost use Prim.Native.Nat.{_≤_};
 ghost use lib.ListN.{length};
 ghost use Rattle.model.specs.Map.{imageLength};
+ghost use Rattle.model.specs.File.{fileCheck};
+ghost use Rattle.model.specs.declared.file.FileCheck.the-variants as found;
 ghost use Rattle.night_text.specs.Buffer.{longestLine};
 use libc::STDIN_FILENO;
 use libc::STDOUT_FILENO;
 use map::IMAGE_LENGTH;
 use model::answer::Answer;
 use model::file::FileCheck;
+use model::lane::Working;
 
 // The longest file, and one byte more to notice a longer one.
 const INPUT: usize = 60913;
@@ -24,13 +27,20 @@ fn print_bad(answer: Answer, out: &mut [u8])
     io::write_all(STDOUT_FILENO, &out[..n]);
 }
 
-// The lines of a good file.
-fn print_lines(file: &[u8], image: &mut [u8], out: &mut [u8])
-    requires { ⌜ (length (now image) ≡ imageLength) × (longestLine ≤ length (now out)) ⌝ }
+// The lines of a good file. Whenever the output is full it is written.
+fn print_lines(file: &[u8], count: u32, image: &mut [u8], out: &mut [u8])
+    requires { ⌜ (fileCheck (now file) ≡ found.Good count) × (length (now image) ≡ imageLength) × (longestLine ≤ length (now out)) ⌝ }
 {
-    let begun = pieces::begin();
-    let carried = pieces_out::print_piece(image, begun, file, out);
-    pieces_out::print_end(carried, out)
+    let offset = night_file::records_offset(file);
+    night_runs::start_image(file, offset, image);
+    let mut working = Working::idle();
+    let mut next = 0;
+    while next < count {
+        let come = night_runs::play_run(image, working, file, offset, next, count, out);
+        io::write_all(STDOUT_FILENO, &out[..come.at]);
+        next = come.next;
+        working = come.working;
+    }
 }
 
 fn print_night(file: &[u8], image: &mut [u8], out: &mut [u8])
@@ -39,7 +49,7 @@ fn print_night(file: &[u8], image: &mut [u8], out: &mut [u8])
     let found = night_file::check(file);
     match found {
         FileCheck::Refused(answer) => print_bad(answer, out),
-        FileCheck::Good(_) => print_lines(file, image, out),
+        FileCheck::Good(count) => print_lines(file, count, image, out),
     }
 }
 

@@ -18,8 +18,9 @@ use Rattle.model.specs.declared.file.FileCheck.the-variants.{Refused, Good}
 use Rattle.night_text.proofs.Lines.{bad-most, number-lt}
 use Rattle.night_play.specs.Playing.{textAfter}
 use Rattle.night_play.proofs.Records.{stepOf, text-next, night-line-fits}
+use Rattle.night_runs.proofs.Good.{good-file}
 use Rattle.night_replay.specs.Replay.{roomFor}
-use Rattle.night_replay.proofs.Files.{good-file, prints-refused, prints-night}
+use Rattle.night_replay.proofs.Files.{prints-refused, prints-night}
 
 -- 391 bytes a record
 text-fits : (s : State) (file : List ℕ) (k : ℕ) → k ≤ recordLimit → length (textAfter s file k) ≤ lineRoom 4 * k

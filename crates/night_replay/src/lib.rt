@@ -1,10 +1,7 @@
 // A night file replayed: from its bytes to all that is printed, in a lent buffer.
 ghost use mathlib.Core.Path.{_≡_};
-ghost use Prim.Native.Nat.{_*_, _≤_};
-ghost use lib.ListN.{length};
-ghost use Rattle.model.specs.Map.{imageLength};
-ghost use Rattle.model.specs.Start.{startedState};
-ghost use Rattle.model.specs.File.{editionOf, imageIn, fileCheck, recordsOffset};
+ghost use Prim.Native.Nat.{_*_};
+ghost use Rattle.model.specs.File.{fileCheck};
 ghost use Rattle.model.specs.Night.{printedText};
 ghost use Rattle.model.specs.declared.file.FileCheck.the-variants as found;
 ghost use Rattle.night_text.specs.Buffer.{lineRoom};
@@ -14,19 +11,9 @@ use access_limits::READ_LIMIT;
 use contracts::Replayed;
 use map::IMAGE_LENGTH;
 use model::file::FileCheck;
-use night_file::IMAGE_OFFSET;
 
 // The room that a record's line asks for.
 const LINE_ROOM: usize = 391;
-
-// A file's image, as a module starts with it.
-fn start_image(file: &[u8], offset: usize, image: &mut [u8])
-    requires { ⌜ (offset ≡ recordsOffset (editionOf (now file))) × (offset ≤ length (now file)) × (length (now image) ≡ imageLength) ⌝ }
-    ensures { λ _. ⌜ now (image .exit) ≡ (startedState (imageIn (now (file .entry)))) .image ⌝ }
-{
-    night_image::lay_out(&file[IMAGE_OFFSET..offset], image);
-    start_image::reset(image)
-}
 
 // The text of a good file.
 fn print_good(file: &[u8], count: u32, out: &mut [u8]) -> Replayed
@@ -39,7 +26,7 @@ fn print_good(file: &[u8], count: u32, out: &mut [u8]) -> Replayed
     let mut image = [0u8; IMAGE_LENGTH];
     let mut buffer = [0u8; READ_LIMIT];
     let offset = night_file::records_offset(file);
-    start_image(file, offset, &mut image);
+    night_runs::start_image(file, offset, &mut image);
     let n = night_play::play(&mut image, &mut buffer, file, offset, count, out);
     Replayed::Printed(n)
 }

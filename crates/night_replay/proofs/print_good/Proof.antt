@@ -2,7 +2,8 @@
 use native.Mathlib.Omega.{arith}
 use mathlib.Core.Path.{refl}
 use Rattle.night_buffers.proofs.Buffers.{gives-none, gives-text}
-use Rattle.night_replay.proofs.Files.{good-file, prints-night}
+use Rattle.night_runs.proofs.Good.{good-file}
+use Rattle.night_replay.proofs.Files.{prints-night}
 use borrow.Author.Needs.{needs}
 use Rattle.night_replay.proofs.print_good.Statement.{statement}
 use Rattle.night_replay.proofs.print_good.Tie as tie

@@ -1,10 +1,10 @@
--- `night_replay::start_image` meets its contract. Assumes nothing.
+-- `night_runs::start_image` meets its contract. Assumes nothing.
 use mathlib.Core.Path.{ap, _∙_}
 use Rattle.model.specs.Start.{startedState}
 use Rattle.night_file.proofs.Images.{part-image, part-fits}
 use borrow.Author.Needs.{needs}
-use Rattle.night_replay.proofs.start_image.Statement.{statement}
-use Rattle.night_replay.proofs.start_image.Tie as tie
+use Rattle.night_runs.proofs.start_image.Statement.{statement}
+use Rattle.night_runs.proofs.start_image.Tie as tie
 
 lay-out-requires : tie.Need-lay-out-requires
 lay-out-requires c κs = let s = c .before .before .before .before in (part-fits (s .args .file .now) (s .args .offset) (s .pre .0), search needs)

@@ -1,0 +1,2 @@
+-- A night file's records in runs.
+pub mod Running
