@@ -43,7 +43,7 @@ fn enter(image: &mut [u8], path: u8, from: PathState, to: PathState)
     requires { ⌜ length (now image) ≡ imageLength ⌝ }
     ensures { λ _. ⌜ now (image .exit) ≡ enteredImage path from to (now (image .entry)) ⌝ }
 {
-    bits_lanes::put_each(image, map::STATES, 4, path, to.code());
+    bits_nibbles::put_nibbles(image, map::STATES, path, to.code());
     clear_pending(image, path, from, to);
     flag_change(image, path, to);
 }

@@ -38,7 +38,7 @@ fn set_pending(image: &mut [u8], release: bool, trigger: Trigger, group: u8)
     ensures { λ _. ⌜ now (image .exit) ≡ pendingAfter release trigger group (now (image .entry)) ⌝ }
 {
     if release {
-        bits_lanes::put_each(image, map::PENDING, 1, group, 0);
+        bits_together::clear_bits(image, map::PENDING, group);
     } else {
         put_pending(image, trigger, group);
     }
@@ -92,7 +92,7 @@ pub fn close(image: &mut [u8], w: Working, group: u8, status: Status) -> Working
     requires { ⌜ length (now image) ≡ imageLength ⌝ }
     ensures { λ r. ⌜ IsState (closedState (now (image .entry)) w group (status .code)) (now (image .exit)) r ⌝ }
 {
-    bits_lanes::put_each(image, map::STATUSES, 4, group, status.code);
+    bits_nibbles::put_nibbles(image, map::STATUSES, group, status.code);
     records::freed(w, group)
 }
 

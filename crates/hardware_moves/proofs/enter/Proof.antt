@@ -8,7 +8,7 @@ returns : tie.Need-returns
 returns c =
     entered-by _ _ _ _ _ _ _ _
     (c .before .before .before .before .before .before .before .before .before .before .before .code .ensures)
-    (c .before .before .before .before .before .before .before .before .before .before .put-each .ensures)
+    (c .before .before .before .before .before .before .before .before .before .before .put-nibbles .ensures)
     (c .before .before .before .before .before .before .clear-pending .ensures) (c .before .before .flag-change .ensures)
 
 pub enter-spec : {M : Type 1} → statement M

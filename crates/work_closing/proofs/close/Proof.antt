@@ -7,4 +7,4 @@ use Rattle.work_closing.proofs.close.Tie as tie
 
 pub close-spec : {M : Type 1} → statement M
 unfolding closedState withStatus
-close-spec = tie.close (tie.spec (λ c κs. search needs) (λ c κs. search needs) (λ c. search needs) (λ c. record { image = c .before .before .before .put-each .ensures; working = c .freed .ensures }))
+close-spec = tie.close (tie.spec (λ c κs. search needs) (λ c κs. search needs) (λ c. search needs) (λ c. record { image = c .before .before .before .put-nibbles .ensures; working = c .freed .ensures }))

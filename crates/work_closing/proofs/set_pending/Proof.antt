@@ -9,4 +9,4 @@ pub set-pending-spec : {M : Type 1} → statement M
 unfolding pendingAfter withPending
 set-pending-spec =
     tie.close
-    (tie.spec (λ c κs. search needs) (λ c κs. search needs) (λ c. search needs) (λ c. rw (c .before .before .before .before .if1 .taken, pendingAfter) (c .before .before .put-each .ensures)) (λ c. search needs) (λ c. rw (c .before .before .before .before .if1 .left) (c .before .before .put-pending .ensures)))
+    (tie.spec (λ c κs. search needs) (λ c κs. search needs) (λ c. search needs) (λ c. rw (c .before .before .before .before .if1 .taken, pendingAfter) (c .before .before .clear-bits .ensures)) (λ c. search needs) (λ c. rw (c .before .before .before .before .if1 .left) (c .before .before .put-pending .ensures)))

@@ -1,0 +1,2 @@
+-- The nibbles of a set's lanes.
+pub mod Nibbles
