@@ -62,7 +62,7 @@ pub const STATE_CHANGED: usize = PAGE_11 + (134 - 128);
 // .. its flag bytes: where they start in the image, and how many there are.
 pub const FLAG_BYTES: usize = PAGE_11 + (134 - 128);
 
-const FLAG_BYTE_COUNT: u8 = 20;
+pub const FLAG_BYTE_COUNT: u8 = 20;
 
 // .. the flags that can last, counted from 0: the address of each of the first, those of Tx, is FIRST_LASTING and its number, of each other, those of Rx, LATER_LASTING
 // and its number.
