@@ -1,6 +1,6 @@
 /* Calls of the library for C, as often as standard input says (four bytes, the high one first, behind the letter of what is called), and nothing printed:
- *   n  nothing    w  a write of one byte, the page selection
- *   r  a read of one byte    a  an Apply on four lanes: a write of its trigger and five work steps */
+ *   n  nothing    w  a write of one byte, the page selection    r  a read of one byte    t  a write of ApplyDPInit on four lanes
+ *   k  .. and the first work step    a  .. and all five of them */
 #include "machine.h"
 #include "registers.h"
 
@@ -13,19 +13,28 @@ static registers_u32 write_byte(registers_u8 address, registers_u8 byte)
     return registers_write(MODULE, address, &byte, 1);
 }
 
+/* An Apply on four lanes, with so many of its work steps. */
+static registers_u32 apply(unsigned steps)
+{
+    registers_u32 answers = write_byte(143, 0x0f);
+    while (steps-- > 0)
+        answers |= registers_work(MODULE, 3);
+    return answers;
+}
+
 static registers_u32 call(registers_u8 what)
 {
-    registers_u32 answers = 0;
     switch (what) {
     case 'w':
         return write_byte(127, 0x10);
     case 'r':
         return registers_read(MODULE, 145, 1, buffer, sizeof buffer);
+    case 't':
+        return apply(0);
+    case 'k':
+        return apply(1);
     case 'a':
-        answers |= write_byte(143, 0x0f);
-        for (unsigned k = 0; k < 5; ++k)
-            answers |= registers_work(MODULE, 3);
-        return answers;
+        return apply(5);
     default:
         return REGISTERS_DONE;
     }
