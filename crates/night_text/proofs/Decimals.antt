@@ -91,15 +91,6 @@ three-parts x h =
     let c : x % 10 ≡ x % 100 % 10 = omega arith in
     rw (a, b, c)
 
-pub four-parts : (x : ℕ) → digitsOf 4 x ≡ digitsOf 2 (x / 100) ++ digitsOf 2 (x % 100)
-unfolding digitsOf
-four-parts x =
-    let a : x / 10 / 10 / 10 % 10 ≡ x / 100 / 10 % 10 = omega arith in
-    let b : x / 10 / 10 % 10 ≡ x / 100 % 10 = omega arith in
-    let c : x / 10 % 10 ≡ x % 100 / 10 % 10 = omega arith in
-    let d : x % 10 ≡ x % 100 % 10 = omega arith in
-    rw (a, b, c, d)
-
 -- room for a digit more than a number has changes nothing
 up-to-less : (k x : ℕ) → x < 10 ^ suc k → decimalUpTo (suc (suc k)) x ≡ decimalUpTo (suc k) x
 up-to-less zero x h = up-to-one 1 x h ∙ sym (up-to-one 0 x h)
@@ -141,6 +132,15 @@ unfolding digitsOf
 two-digits x low high h e f =
     let a : x / 10 % 10 ≡ x / 10 = omega arith in
     rw (a, e, f)
+
+-- .. and four
+pub four-digits : (x a b c d : ℕ) → x < 10000 → a ≡ digitText (x / 1000) → b ≡ digitText (x / 100 % 10) → c ≡ digitText (x / 10 % 10) → d ≡ digitText (x % 10)
+    → digitsOf 4 x ≡ a ∷ b ∷ c ∷ d ∷ []
+unfolding digitsOf
+four-digits x a b c d h ea eb ec ed =
+    let p : x / 10 / 10 / 10 % 10 ≡ x / 1000 = omega arith in
+    let q : x / 10 / 10 % 10 ≡ x / 100 % 10 = omega arith in
+    rw (p, q, ea, eb, ec, ed)
 
 -- how many digits there are in parts
 pub length-digits : (n x : ℕ) → length (digitsOf n x) ≡ n

@@ -42,13 +42,19 @@ fn put_three(out: &mut [u8], at: usize, x: u32) -> usize
     put_two(out, at, x % 100)
 }
 
-// Four digits.
+// Four digits, likewise: the number less its tenths, a digit a byte.
 fn put_four(out: &mut [u8], at: usize, x: u32) -> usize
     requires { ⌜ (x < 10000) × (at + 4 ≤ length (now out)) ⌝ }
     ensures { λ r. ⌜ Puts at (digitsOf 4 x) (now (out .entry)) (now (out .exit)) r ⌝ }
 {
-    let at = put_two(out, at, x / 100);
-    put_two(out, at, x % 100)
+    let n = x as u64;
+    let over = 2559 * (n / 1000) + 655104 * (n / 100) + 167706624 * (n / 10);
+    let text = (0x30303030 + 16777216 * n - over) as u32;
+    out[at] = (text % 256) as u8;
+    out[at + 1] = (text / 256 % 256) as u8;
+    out[at + 2] = (text / 65536 % 256) as u8;
+    out[at + 3] = (text / 16777216) as u8;
+    at + 4
 }
 
 // A number of up to four digits in decimal.

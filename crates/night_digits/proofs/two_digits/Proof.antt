@@ -2,16 +2,10 @@
 use mathlib.Core.Path.{_≡_}
 use Prim.Native.Nat.{ℕ, _+_, _*_, _/_, _%_, _<_}
 use native.Mathlib.Omega.{arith}
-use borrow.Author.Tests.{lt-ltb}
-use Rattle.bits.specs.Choice.{pick}
-use Rattle.model.specs.Text.{digitText}
+use Rattle.night_digits.proofs.Characters.{decimal-digit}
 use borrow.Author.Needs.{needs}
 use Rattle.night_digits.proofs.two_digits.Statement.{statement}
 use Rattle.night_digits.proofs.two_digits.Tie as tie
-
-decimal-digit : (d : ℕ) → d < 10 → digitText d ≡ 0x30 + d
-unfolding digitText pick
-decimal-digit d h = rw (lt-ltb d 10 h, pick)
 
 low-byte : (a b : ℕ) → a < 10 → (0x3030 + a + 256 * b) % 256 ≡ 0x30 + a
 low-byte a b h = omega arith

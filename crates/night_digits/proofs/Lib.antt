@@ -1,0 +1,2 @@
+-- The characters of decimal digits.
+pub mod Characters
