@@ -36,16 +36,17 @@ pub fn used_at(image: &[u8], base: usize, lane: u8) -> bool
     app_at(image, base, lane) != 0
 }
 
-// The lanes that have a value in the bits shift .. shift + width - 1 of their DPConfig in the set at a base.
+// The lanes that have a value in the bits shift .. shift + width - 1 of their DPConfig in the set at a base. From the last lane down, so that the eight bytes are
+// compared at once.
 fn lanes_with(image: &[u8], base: usize, shift: u8, width: u8, value: u8) -> u8
     requires { ⌜ (base + laneCount ≤ length (now image)) × (width + shift ≤ 8) ⌝ }
     ensures { λ r. ⌜ r ≡ maskOf laneCount (λ m. eqb (field (of (settingsOf base (now (image .entry))) m .config) shift width) value) ⌝ }
 {
     let mut found: u8 = 0;
-    for lane in 0..LaneRecord::COUNT {
-        let config = bits_lanes::lane_byte(image, base, lane);
+    for k in 0..LaneRecord::COUNT {
+        let config = bits_lanes::lane_byte(image, base, LaneRecord::COUNT - 1 - k);
         let same = bits::take_field(config, shift, width) == value;
-        found = bits_sets::with_lane(found, lane, same);
+        found = found * 2 + (same as u8);
     }
     found
 }
