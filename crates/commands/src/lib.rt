@@ -12,7 +12,7 @@ use model::command::CommandStatus;
 const COMMAND_STATUS: usize = 37;
 
 // A write of this address runs the command.
-const RUN_ADDRESS: usize = 129;
+pub const RUN_ADDRESS: usize = 129;
 
 // The status of a message, and the flag that it is done with: CdbCmdCompleteFlag1, lower 8.6.
 fn complete(image: &mut [u8], status: CommandStatus)

@@ -1,21 +1,21 @@
 -- The end of an access: after the bytes of a write, plain or not, and after a read, which shows again what is on. Assumes nothing.
-use mathlib.Core.Path.{_≡_, refl, ap, ap₂, subst, _∙_}
-use mathlib.Core.Bool.{true}
+use mathlib.Core.Path.{_≡_, refl, sym, ap, ap₂, subst, _∙_}
+use mathlib.Core.Bool.{true, false, _&&_}
 use mathlib.Core.List.{List}
 use Prim.Native.Nat.{ℕ, _+_, _≤_, _<_}
 use native.Mathlib.Omega.{arith}
-use lib.Dec.{ltb}
+use lib.Dec.{leb, ltb}
 use lib.ListN.{length}
 use borrow.Author.Tests.{ltb-false}
-use Rattle.bits.specs.Choice.{pick, onlyIf}
-use Rattle.bits.proofs.Tests.{split}
-use Rattle.model.specs.Map.{Image, moduleControls}
+use Rattle.bits.specs.Choice.{pick, both, onlyIf}
+use Rattle.bits.proofs.Tests.{split, and-both}
+use Rattle.model.specs.Map.{Image, moduleControls, runAddress}
 use Rattle.model.specs.State.{State, stateWith}
 use Rattle.model.specs.declared.lane.Working.{Working}
 use Rattle.model.specs.Flags.{shownAgainImage, settledImage}
 use Rattle.model.specs.Pages.{indexOf}
 use Rattle.model.specs.Commands.{commandImage}
-use Rattle.model.specs.Access.{bytesWrittenState, runsCommand, endedState, clearedImage, halfEnd}
+use Rattle.model.specs.Access.{bytesWrittenState, writes, runsCommand, endedState, clearedImage, halfEnd}
 use Rattle.model.specs.Step.{readEffect}
 use Rattle.contracts.specs.Contracts.{IsState}
 use Rattle.access_writes.specs.Puts.{isPlain, bytesPut}
@@ -24,6 +24,15 @@ use Rattle.access_writes.proofs.Putting.{plain-past, plain-put}
 use Rattle.access_ends.proofs.Resetting.{reset-past}
 use Rattle.step_host.specs.Settled.{settledState, plainImage}
 use Rattle.step_host.proofs.Elsewhere.{index-kept}
+
+-- a write that does not reach the address that runs a command runs none
+unreached : (address n : ℕ) → (leb address runAddress && ltb runAddress (address + n)) ≡ false → writes address n runAddress ≡ false
+unfolding writes
+unreached address n e = sym (and-both _ _) ∙ e
+
+pub runs-none : (address n : ℕ) (x : Image) → (leb address runAddress && ltb runAddress (address + n)) ≡ false → x ≡ onlyIf (runsCommand address n x) commandImage x
+unfolding runsCommand onlyIf both
+runs-none address n x e = rw (unreached address n e, both, onlyIf)
 
 module _ (address : ℕ) (bytes : List ℕ) where
   -- a plain write, from what its parts leave

@@ -5,7 +5,9 @@ ghost use Prim.Native.Nat.{_+_, _≤_};
 ghost use lib.ListN.{length};
 ghost use Rattle.contracts.specs.Contracts.{IsState, IsOutcome};
 ghost use Rattle.step_host.specs.Settled.{settledState, plainImage};
-ghost use Rattle.model.specs.Access.{bytesWrittenState, endedState, halfEnd};
+ghost use Rattle.bits.specs.Choice.{onlyIf};
+ghost use Rattle.model.specs.Access.{bytesWrittenState, endedState, halfEnd, runsCommand};
+ghost use Rattle.model.specs.Commands.{commandImage};
 ghost use Rattle.model.specs.Flags.{shownAgainImage};
 ghost use Rattle.model.specs.Pages.{indexOf};
 ghost use Rattle.model.specs.State.{stateWith};
@@ -22,13 +24,24 @@ use model::lane::Working;
 // The last flag that can last.
 const LAST_LASTING: u8 = map::LATER_LASTING + map::LASTING_COUNT - 1;
 
+// The command that a plain write runs, if it reaches the address that runs one: few do, and the others ask for no page.
+fn end_plain(image: &mut [u8], address: u8, count: usize)
+    requires { ⌜ (length (now image) ≡ imageLength) × (address + count ≤ halfEnd address) ⌝ }
+    ensures { λ _. ⌜ now (image .exit) ≡ onlyIf (runsCommand address count (now (image .entry))) commandImage (now (image .entry)) ⌝ }
+{
+    let first = address as usize;
+    if (first <= commands::RUN_ADDRESS) & (commands::RUN_ADDRESS < first + count) {
+        commands::end_write(image, address, count);
+    }
+}
+
 // A plain write: its bytes, the command that it runs, then lower 3.0.
 fn write_plain(image: &mut [u8], address: u8, bytes: &[u8])
     requires { ⌜ (length (now image) ≡ imageLength) × (address + length (now bytes) ≤ halfEnd address) ⌝ }
     ensures { λ _. ⌜ now (image .exit) ≡ plainImage address (now (bytes .entry)) (now (image .entry)) ⌝ }
 {
     access_writes::write_plain(image, address, bytes);
-    commands::end_write(image, address, bytes.len());
+    end_plain(image, address, bytes.len());
     flags_interrupt::settle(image)
 }
 
