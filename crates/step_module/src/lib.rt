@@ -50,7 +50,7 @@ pub fn hardware(image: &mut [u8], w: Working, lane: u8) -> Returned
     if !view_paths::used_at(image, map::ACTIVE_SET, lane) {
         return contracts::reply(Answer::NothingOnLane, w);
     }
-    let path = view_paths::path_of(image, lane);
+    let path = hardware_paths::path_of(image, lane);
     let busy = records::busy_lanes(w);
     if bits_sets::meets(path, busy) {
         contracts::reply(Answer::Busy, w)

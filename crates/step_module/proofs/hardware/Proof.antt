@@ -51,6 +51,9 @@ returns-5 c =
     let moved = c .before .before .before .before .before .before .before .move-path .ensures ∙ ap₂ (λ d g. movedPathImage d x g (stateOf (get x (stateAt (s .lane))))) (c .before .before .before .before .before .before .before .before .before .holds-down .ensures) path in
     image-leaves _ _ _ _ _ _ _ _ (hardware-done _ _ _ (c .before .before .before .before .before .before .before .before .before .before .before .before .before .before .before .before .before .before .before .before .before .if1 .left) (sym busy ∙ c .before .before .before .before .before .before .before .before .before .before .before .if4 .left) used) refl moved (c .before .before .before .settle .ensures) (c .reply5 .ensures)
 
+path-of-requires : tie.Need-path-of-requires
+path-of-requires c κs = (search needs, search needs, sym (c .before .before .used-at .ensures) ∙ not-false _ (c .before .if3 .left))
+
 pub hardware-spec : {M : Type 1} → statement M
 unfolding isDone
 hardware-spec =
@@ -65,7 +68,7 @@ hardware-spec =
     (λ c κs. search needs)
     (λ c. search needs)
     returns-3
-    (λ c κs. search needs)
+    path-of-requires
     (λ c κs. search needs)
     (λ c κs. search needs)
     (λ c κs. search needs)

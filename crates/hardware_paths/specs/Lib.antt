@@ -1,0 +1,2 @@
+-- Sets of lanes with a byte for each lane.
+pub mod Bytewise
