@@ -52,7 +52,7 @@ class Program:
         self.arrivals = select.poll()
         self.said = tempfile.TemporaryFile()
         try:
-            # A session of its own: an interrupt at the terminal is for this process alone.
+            # Apart from the terminal: an interrupt there is for this process alone.
             self.process = subprocess.Popen(
                 command,
                 stdin=subprocess.PIPE,
