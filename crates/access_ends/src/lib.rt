@@ -1,4 +1,6 @@
 // The end of a write, after its last byte: the command that it runs, or the reset that it asks for.
+#![tactic(auto)]
+
 ghost use Rattle.std.specs.Prelude.{◌≡◌, length};
 ghost use Rattle.contracts.specs.Forms.{IsState};
 ghost use Rattle.model.specs.Access.{resets, ended_state};

@@ -1,4 +1,6 @@
 // Which accesses of a host are allowed: how many bytes, and where they end.
+#![tactic(auto)]
+
 ghost use Rattle.std.specs.Prelude.{◌≡◌, ◌<◌};
 ghost use Rattle.model.specs.Access.{half_end, is_bad_access};
 

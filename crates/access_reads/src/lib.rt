@@ -1,4 +1,6 @@
 // A host read: all its bytes are taken through a window, and then those that a read clears are cleared.
+#![tactic(auto)]
+
 ghost use Rattle.std.specs.Prelude.{◌≡◌, true, ◌+◌, ◌≤◌, ◌<◌, ltb, length};
 ghost use Rattle.bits.specs.Choice.{pick};
 ghost use Rattle.model.specs.Map.{image_length};

@@ -1,4 +1,6 @@
 // A host write: bytes in address order, the upper half on the page selected by then.
+#![tactic(auto)]
+
 ghost use Rattle.std.specs.Prelude.{◌≡◌, ◌+◌, ◌^◌, ◌≤◌, ◌<◌, length, set};
 ghost use Rattle.bits.specs.Choice.{pick};
 ghost use Rattle.model.specs.Map.{writable, image_length};

@@ -1,4 +1,6 @@
 // Looking up Applications: what the descriptor of an AppSel says, and whether it is there at all.
+#![tactic(auto)]
+
 ghost use Rattle.std.specs.Prelude.{◌≡◌, ◌≤◌, length};
 ghost use Rattle.model.specs.Applications.{descriptor_at, list_reaches, lookup};
 ghost use Rattle.model.specs.Map.{image_length};

@@ -1,4 +1,6 @@
 // Groups: how the selected lanes fall into those that are set up or released together.
+#![tactic(auto)]
+
 ghost use Rattle.std.specs.Prelude.{◌≡◌, ◌+◌, ◌≤◌, ◌<◌, length};
 ghost use Rattle.model.specs.View.{view_of};
 ghost use Rattle.model.specs.Groups.{group_of};

@@ -1,4 +1,6 @@
 // What a trigger holds of a lane that it marks: the settings of its staged set as they are now, beside the group, the trigger, the set and the verdict.
+#![tactic(auto)]
+
 ghost use Rattle.std.specs.Prelude.{◌≡◌, ◌<◌, length};
 ghost use Rattle.model.specs.Map.{image_length, staged_base};
 ghost use Rattle.bits.specs.Sets.{lane_count};

@@ -1,4 +1,6 @@
 // The lanes that a trigger marks: its groups are found, those with a lane in progress left alone, and each of the others judged once.
+#![tactic(auto)]
+
 ghost use Rattle.std.specs.Prelude.{◌≡◌, ◌+◌, ◌≤◌, length};
 ghost use Rattle.model.specs.Map.{image_length, staged_base, set_length};
 ghost use Rattle.bits.specs.Sets.{lane_count};
@@ -9,7 +11,7 @@ ghost use Rattle.apply_marks.specs.Marks.{Marks};
 use model::lane::{LaneRecord, StagedSet, Trigger, Verdict, Working};
 
 // What marking has come to: the records and the lanes marked.
-#[derive(Drop)]
+#[derive(Clone, Copy)]
 pub struct Marking {
     pub working: Working,
     pub marked: u8,

@@ -1,4 +1,6 @@
 // What a trigger decides: which lanes it marks, and the stage that it gives to each of them, all from the state before any is marked. A group is found once, at its first lane, and judged once.
+#![tactic(auto)]
+
 ghost use Rattle.std.specs.Prelude.{◌≡◌, ◌+◌, ◌≤◌, ◌<◌, length};
 ghost use Rattle.bits.specs.Sets.{lane_count};
 ghost use Rattle.model.specs.Map.{image_length, staged_base, set_length};
@@ -8,7 +10,7 @@ ghost use Rattle.apply_plans.specs.Plans.{known_of, found_for, Plans};
 use model::lane::{LaneRecord, Stage, StagedSet, Trigger, Verdict};
 
 // The group of a lane, whether none of its lanes is in progress, and the verdict on it if so.
-#[derive(Drop)]
+#[derive(Clone, Copy)]
 pub struct Found {
     pub lane: u8,
     pub group: u8,
@@ -17,13 +19,13 @@ pub struct Found {
 }
 
 // The stage that a trigger gives to a lane.
-#[derive(Drop)]
+#[derive(Clone, Copy)]
 pub struct Given {
     pub stage: Stage,
 }
 
 // The lanes that a trigger marks, and what it gives to each of them; the others are given Idle.
-#[derive(Drop)]
+#[derive(Clone, Copy)]
 pub struct Planned {
     pub marked: u8,
     pub given: [Given; 8],

@@ -1,4 +1,6 @@
 // The reasons to reject a group, a test each.
+#![tactic(auto)]
+
 ghost use Rattle.std.specs.Prelude.{◌≡◌, not, ◌+◌, ◌≤◌, ◌<◌, ltb, length};
 ghost use Rattle.bits.specs.Choice.{both, either};
 ghost use Rattle.bits.specs.Sets.{has, first_in, lane_count};

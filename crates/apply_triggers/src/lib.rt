@@ -1,4 +1,6 @@
 // A trigger: the groups that it finds are marked, with their verdicts fixed at once and what is staged held.
+#![tactic(auto)]
+
 ghost use Rattle.std.specs.Prelude.{◌≡◌, length};
 ghost use Rattle.model.specs.Map.{image_length};
 ghost use Rattle.model.specs.Triggers.{is_ignored, triggered_state};

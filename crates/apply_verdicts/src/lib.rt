@@ -1,4 +1,6 @@
 // The verdict on a group: the first reason to reject it that applies, or a pass.
+#![tactic(auto)]
+
 ghost use Rattle.std.specs.Prelude.{◌≡◌, ◌+◌, ◌≤◌, ◌<◌, length};
 ghost use Rattle.model.specs.Map.{active_set, image_length, set_length};
 ghost use Rattle.model.specs.View.{view_of};

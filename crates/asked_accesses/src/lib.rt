@@ -1,4 +1,6 @@
 // The event of a host access, for the calls that make one.
+#![tactic(auto)]
+
 ghost use Rattle.std.specs.Prelude.{◌≡◌};
 ghost use Rattle.model.specs.Step.{event};
 ghost use Rattle.model.specs.declared.event.Call.TheVariants.{Write, Read};

@@ -1,4 +1,6 @@
 // The event of a condition and of a sample, for the calls that make one.
+#![tactic(auto)]
+
 ghost use Rattle.std.specs.Prelude.{◌≡◌};
 ghost use Rattle.model.specs.declared.event.Call.TheVariants.{Condition, Lasting, Sample};
 

@@ -1,4 +1,6 @@
 // The event of a work step and of a hardware event, for the calls that make one.
+#![tactic(auto)]
+
 ghost use Rattle.std.specs.Prelude.{◌≡◌};
 ghost use Rattle.model.specs.declared.event.Call.TheVariants.{Work, Hardware};
 

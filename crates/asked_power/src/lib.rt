@@ -1,4 +1,6 @@
 // The module event and the event of the low-power line, for the calls that make one.
+#![tactic(auto)]
+
 ghost use Rattle.std.specs.Prelude.{◌≡◌};
 ghost use Rattle.model.specs.declared.event.Call.TheVariants.{Module, Line};
 

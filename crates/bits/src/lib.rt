@@ -1,10 +1,12 @@
 // Fields of a byte list. A field is a place: a byte, the field's lowest bit there, and its width.
+#![tactic(auto)]
+
 ghost use Rattle.std.specs.Prelude.{◌≡◌, ◌+◌, ◌^◌, ◌≤◌, ◌<◌, length};
 ghost use Rattle.bits.specs.Number.{field, with_field};
 ghost use Rattle.bits.specs.Place.{get, put};
 
 // The bits shift .. shift + width - 1 of the byte.
-#[derive(Drop)]
+#[derive(Clone, Copy)]
 pub struct Place {
     pub byte: usize,
     pub shift: u8,

@@ -1,4 +1,6 @@
 // The field of a lane, of any width that divides eight, at one formula over base, width and lane: its place, and get and put there.
+#![tactic(auto)]
+
 ghost use Rattle.std.specs.Prelude.{◌≡◌, ◌+◌, ◌%◌, ◌^◌, ◌≤◌, ◌<◌, length};
 ghost use Rattle.bits.specs.Place.{get, put};
 ghost use Rattle.bits.specs.Lane.{lane_field};

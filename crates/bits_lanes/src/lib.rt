@@ -1,4 +1,6 @@
 // The fields of the lanes, a bit, a nibble or a byte each; a value put into the field of each lane of a set.
+#![tactic(auto)]
+
 ghost use Rattle.std.specs.Prelude.{◌≡◌, ◌+◌, ◌%◌, ◌≤◌, ◌<◌, length};
 ghost use Rattle.bits.specs.Place.{get, put};
 ghost use Rattle.bits.specs.Lane.{lane_field};

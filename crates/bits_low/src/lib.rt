@@ -1,4 +1,6 @@
 // Numbers of four and eight bytes, the low byte first. The compiler makes one load of them.
+#![tactic(auto)]
+
 ghost use Rattle.std.specs.Prelude.{◌≡◌, ◌+◌, ◌*◌, ◌≤◌, ◌<◌, length};
 ghost use Rattle.bits_low.specs.LowFirst.{low_first};
 

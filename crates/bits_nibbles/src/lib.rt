@@ -1,4 +1,6 @@
 // A value put into the nibbles of a set's lanes, all at once in one number of four bytes.
+#![tactic(auto)]
+
 ghost use Rattle.std.specs.Prelude.{◌≡◌, ◌+◌, ◌≤◌, length};
 ghost use Rattle.bits.specs.Place.{put};
 ghost use Rattle.bits.specs.Lane.{lane_field};

@@ -1,4 +1,6 @@
 // Sets of lanes, a bit for each in a byte.
+#![tactic(auto)]
+
 ghost use Rattle.std.specs.Prelude.{◌≡◌, ◌≤◌, ◌<◌, ltb};
 ghost use mir.Val.{bool_byte};
 ghost use Rattle.bits.specs.Number.{with_field};

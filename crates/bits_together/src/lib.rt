@@ -1,4 +1,6 @@
 // The bits of a set's lanes in one byte, set or cleared all at once.
+#![tactic(auto)]
+
 ghost use Rattle.std.specs.Prelude.{◌≡◌, ◌+◌, ◌≤◌, length};
 ghost use Rattle.bits.specs.Place.{put};
 ghost use Rattle.bits.specs.Lane.{lane_field};

@@ -1,4 +1,6 @@
 // Numbers of two and four bytes, the high byte first.
+#![tactic(auto)]
+
 ghost use Rattle.std.specs.Prelude.{◌≡◌, ◌+◌, ◌≤◌, length};
 ghost use Rattle.bits.specs.Word.{word, put_word};
 

@@ -1,4 +1,6 @@
 // Start, and any event: the refusals in the order 1, 2, 10 (start alone), 3, 4, 8, 5, 7, 6, and soundness asked once.
+#![tactic(auto)]
+
 ghost use Rattle.std.specs.Prelude.{[]};
 ghost use Rattle.contracts.specs.Forms.{IsOutcome};
 ghost use Rattle.model.specs.State.{state_with};

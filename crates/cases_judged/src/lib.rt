@@ -1,1 +1,2 @@
 // Worked cases of groups, triggers and verdicts, computed by the checker from the model. No code.
+#![tactic(auto)]

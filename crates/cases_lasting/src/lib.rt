@@ -1,1 +1,2 @@
 // Cases of flags that last, computed by the checker from the model. No code.
+#![tactic(auto)]

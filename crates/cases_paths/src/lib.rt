@@ -1,1 +1,2 @@
 // Cases of paths and hardware events, computed by the checker from the model. No code.
+#![tactic(auto)]

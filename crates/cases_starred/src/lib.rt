@@ -1,1 +1,2 @@
 // The starred cases of document 01, computed by the checker from the model. No code.
+#![tactic(auto)]

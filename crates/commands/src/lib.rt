@@ -1,4 +1,6 @@
 // Command messages on page 9Fh: a write that reaches 129 there runs the command that the page holds, after its last byte.
+#![tactic(auto)]
+
 ghost use Rattle.std.specs.Prelude.{◌≡◌, length};
 ghost use Rattle.bits.specs.Choice.{only_if};
 ghost use Rattle.model.specs.Access.{runs_command};

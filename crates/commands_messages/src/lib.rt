@@ -1,4 +1,6 @@
 // A command message on page 9Fh: whether its code is right, and what becomes of it.
+#![tactic(auto)]
+
 ghost use Rattle.std.specs.Prelude.{◌≡◌, ◌+◌, ◌≤◌, length, get_or};
 ghost use Rattle.model.specs.Commands.{sum_of, check_code, body_limit, right_code, is_code_right, status_of};
 ghost use Rattle.model.specs.Map.{image_length};

@@ -1,4 +1,6 @@
 // The reply to a command message: its length and code, and its bytes.
+#![tactic(auto)]
+
 ghost use Rattle.std.specs.Prelude.{◌≡◌, true, ◌+◌, ◌≤◌, length, set};
 ghost use Rattle.bits.specs.Loop.{each};
 ghost use Rattle.model.specs.Commands.{sum_of, body_limit, reply_byte, with_reply_header, replied_image};

@@ -1,11 +1,13 @@
 // What calls hand back, and the forms of contracts over it.
+#![tactic(auto)]
+
 ghost use Rattle.std.specs.Prelude.{◌≡◌};
 
 use model::answer::Answer;
 use model::lane::Working;
 
 // What a call hands back beside the image and the buffer that it was lent: its answer, the lanes to be commissioned, and the working state.
-#[derive(Drop)]
+#[derive(Clone, Copy)]
 pub struct Returned {
     pub answer: Answer,
     pub mask: u8,
@@ -24,7 +26,7 @@ pub fn reply(answer: Answer, w: Working) -> Returned
 }
 
 // The answer to a call that prints into a lent buffer: that the buffer is too short, or how many bytes were printed.
-#[derive(Drop)]
+#[derive(Clone, Copy)]
 pub enum Replayed {
     ShortBuffer,
     Printed(usize),

@@ -1,4 +1,6 @@
 // What a call of firmware hands back: the working state in its buffer, the one number for its answer and mask; and the refusals that are asked before a working state is there.
+#![tactic(auto)]
+
 ghost use Rattle.std.specs.Prelude.{◌≡◌, ◌≤◌, length};
 ghost use Rattle.model.specs.Refusals.{first_of};
 ghost use Rattle.model.specs.Outcome.{laid_over};

@@ -1,4 +1,6 @@
 // Start, and any event, with the working state in a lent buffer.
+#![tactic(auto)]
+
 ghost use Rattle.std.specs.Prelude.{[]};
 ghost use Rattle.door_answers.specs.Door.{door_start, door_outcome, IsLeft};
 

@@ -1,4 +1,6 @@
 // The events that firmware's arguments ask for, where they differ from those of the registers: a write's bytes are lent, and the line is a number.
+#![tactic(auto)]
+
 ghost use Rattle.std.specs.Prelude.{◌≡◌, not, eqb, get_or};
 ghost use Rattle.model.specs.declared.event.Call.TheVariants.{Line};
 ghost use Rattle.door_events.specs.Writes.{held_count, held_bytes, held_write};

@@ -1,4 +1,6 @@
 // The calls of firmware: each answers every input, by the answer's number in bits 7-0 and the lanes to be commissioned in bits 15-8.
+#![tactic(auto)]
+
 ghost use Rattle.std.specs.Prelude.{not, [], eqb};
 ghost use Rattle.model.specs.declared.event.Call.TheVariants.{Read, Work, Hardware, Condition, Sample, Lasting, Module, Line};
 ghost use Rattle.contracts.specs.Asked.{asked};

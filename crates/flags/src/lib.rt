@@ -1,4 +1,6 @@
 // Flags: conditions, and samples of received power.
+#![tactic(auto)]
+
 ghost use Rattle.std.specs.Prelude.{◌≡◌, ◌+◌, ◌≤◌, ◌<◌, length};
 ghost use Rattle.model.specs.Flags.{is_condition_flag, condition_image, power, raised_image};
 ghost use Rattle.model.specs.Map.{image_length};
@@ -53,7 +55,7 @@ fn limit(image: &[u8], at: usize) -> u16
 }
 
 // Which of the four limits a power lies beyond: above the high one, or below the low one, of the alarm and of the warning.
-#[derive(Drop)]
+#[derive(Clone, Copy)]
 pub struct Crossing {
     pub above_alarm: bool,
     pub below_alarm: bool,

@@ -1,4 +1,6 @@
 // The interrupt bit: lower 3.0, settled by the flags that no mask bit covers.
+#![tactic(auto)]
+
 ghost use Rattle.std.specs.Prelude.{◌≡◌, not, ◌+◌, ◌≤◌, eqb, length};
 ghost use Rattle.bits.specs.Loop.{any_below};
 ghost use Rattle.model.specs.Flags.{interrupts, settled_image};

@@ -1,4 +1,6 @@
 // A condition that lasts: the flags that it raises, and what is on after it.
+#![tactic(auto)]
+
 ghost use Rattle.std.specs.Prelude.{◌≡◌, true, ◌<◌, length};
 ghost use Rattle.model.specs.Map.{image_length, lasting_count};
 ghost use Rattle.model.specs.Records.{on_at, with_ons, with_flag_on};

@@ -1,4 +1,6 @@
 // A sample of received power: the flags that it raises, and what is on after it.
+#![tactic(auto)]
+
 ghost use Rattle.std.specs.Prelude.{◌≡◌, ◌<◌, length};
 ghost use Rattle.bits.specs.Sets.{lane_count};
 ghost use Rattle.model.specs.Map.{image_length};

@@ -1,4 +1,6 @@
 // What is on shows again after a read that cleared its flag.
+#![tactic(auto)]
+
 ghost use Rattle.std.specs.Prelude.{◌≡◌, not, ◌+◌, ◌≤◌, ◌<◌, eqb, length};
 ghost use Rattle.bits.specs.Loop.{any_below};
 ghost use Rattle.bits.specs.Sets.{lane_count};

@@ -1,4 +1,6 @@
 // The hardware event that moves a path from state to state, by its signals.
+#![tactic(auto)]
+
 ghost use Rattle.std.specs.Prelude.{◌≡◌, ◌<◌, length};
 ghost use Rattle.bits.specs.Choice.{only_if};
 ghost use Rattle.bits.specs.Place.{get};

@@ -1,4 +1,6 @@
 // The path of a used lane, found in one number: the eight DPConfig bytes of the active set, a byte a lane.
+#![tactic(auto)]
+
 ghost use Rattle.std.specs.Prelude.{◌≡◌, true, ◌<◌, length};
 ghost use Rattle.bits.specs.Sets.{lane_count};
 ghost use Rattle.model.specs.Map.{image_length, active_set};

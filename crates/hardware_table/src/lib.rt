@@ -1,4 +1,6 @@
 // The path table: the state that follows a path's state, by its signals.
+#![tactic(auto)]
+
 ghost use Rattle.std.specs.Prelude.{◌≡◌};
 ghost use Rattle.model.specs.Hardware.{next_state};
 

@@ -1,1 +1,2 @@
 // What each change of the image leaves of each register: theorems alone, no code.
+#![tactic(auto)]

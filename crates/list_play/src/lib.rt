@@ -1,5 +1,7 @@
 // A night as a list of events.
 // The loop's whole state is one struct by value, so that the loop itself has a test, the loans, the event and one call.
+#![tactic(auto)]
+
 ghost use Rattle.contracts.specs.Forms.{IsOutcome};
 ghost use Rattle.model.specs.State.{state_with};
 ghost use Rattle.model.specs.Outcome.{list_outcome};

@@ -1,4 +1,6 @@
 // Where a list of events stands: admitted or refused, and then an event more with its answer's number.
+#![tactic(auto)]
+
 ghost use Rattle.std.specs.Prelude.{◌≡◌, ◌≤◌, ◌<◌, length};
 ghost use Rattle.list_runs.specs.Runs.{refused_run, admitted_run, noted_run, noted_answers};
 
@@ -7,7 +9,7 @@ use model::answer::Answer;
 use model::lane::Working;
 
 // Where a list stands: what it leaves so far, the events done, and how many are to be done.
-#[derive(Drop)]
+#[derive(Clone, Copy)]
 pub struct Run {
     pub left: Returned,
     pub at: usize,

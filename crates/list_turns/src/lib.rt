@@ -1,4 +1,6 @@
 // A list of events: its admission, with 1, 2, 3 and 5 asked once for the whole list, and the turn of one event, whose answer's number goes into a lent buffer.
+#![tactic(auto)]
+
 ghost use Rattle.std.specs.Prelude.{◌≡◌, ◌≤◌, ◌<◌, length};
 ghost use Rattle.list_turns.specs.Turns.{begin_of, turn_of};
 ghost use Rattle.model.specs.Map.{image_length};

@@ -1,4 +1,6 @@
 // The register map in code: where each page and each lane register starts, and which bytes of the image keep a write, are cleared by a read, or are kept by start.
+#![tactic(auto)]
+
 ghost use Rattle.std.specs.Prelude.{◌≡◌, ◌+◌, ◌≤◌, ◌<◌, leb, ltb};
 ghost use Rattle.bits.specs.Choice.{both};
 ghost use Rattle.model.specs.Map.{image_length, page_length, on, flag_bytes, flag_byte_count, lasting_count, lasting_flag, lasting_index, writable, clearing, kept};

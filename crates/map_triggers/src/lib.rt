@@ -1,4 +1,6 @@
 // The triggers' places on page 10h: ApplyDPInit and ApplyImmediate of the two staged sets.
+#![tactic(auto)]
+
 ghost use Rattle.std.specs.Prelude.{◌≡◌, ◌+◌, ◌^◌, ◌<◌};
 ghost use Rattle.model.specs.Map.{trigger_at};
 ghost use Rattle.model.specs.declared.lane.TriggerPlace.TheVariants.{Applies};

@@ -1,14 +1,14 @@
 // Applications, as the descriptors advertise them.
 
 // How many host lanes an Application takes, and on which lanes it may begin, a bit each.
-#[derive(Drop)]
+#[derive(Clone, Copy)]
 pub struct Descriptor {
     pub count: u8,
     pub firsts: u8,
 }
 
 // The answer of a lookup: a descriptor that is not there is an answer of its own.
-#[derive(Drop)]
+#[derive(Clone, Copy)]
 pub enum Lookup {
     Missing,
     Found(Descriptor),

@@ -3,7 +3,7 @@ ghost use Rattle.std.specs.Prelude.{◌≡◌};
 ghost use Rattle.model.specs.Commands.{commands, status_among, status_code, length_of};
 
 // The commands that the module knows.
-#[derive(Drop)]
+#[derive(Clone, Copy)]
 pub enum Command {
     QueryStatus,
     ModuleFeatures,
@@ -12,7 +12,7 @@ pub enum Command {
 }
 
 // What becomes of a message.
-#[derive(Drop)]
+#[derive(Clone, Copy)]
 pub enum CommandStatus {
     Success(Command),
     UnknownNumber,

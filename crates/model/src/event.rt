@@ -2,7 +2,7 @@
 
 // What is asked, with its arguments. Power is in tenths of a microwatt. A condition comes once; a lasting one begins on some lanes and ends on others. The module
 // moves one state on; the low-power line is set.
-#[derive(Drop)]
+#[derive(Clone, Copy)]
 pub enum Call {
     Write { address: u8, count: u8 },
     Read { address: u8, count: u8 },
@@ -16,7 +16,7 @@ pub enum Call {
 }
 
 // An event: the call, and beside it the bytes that a write carries.
-#[derive(Drop)]
+#[derive(Clone, Copy)]
 pub struct Event {
     pub call: Call,
     pub bytes: [u8; 8],

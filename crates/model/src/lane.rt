@@ -4,7 +4,7 @@ ghost use Rattle.model.specs.Map.{staged_base};
 ghost use Rattle.model.specs.Records.{idle_record, idle_working};
 
 // The settings of one lane, a number for each of its fields.
-#[derive(Drop)]
+#[derive(Clone, Copy)]
 pub struct Settings {
     pub config: u8,
     pub adaptive: u8,
@@ -17,14 +17,14 @@ pub struct Settings {
 }
 
 // Which trigger began an Apply.
-#[derive(Drop)]
+#[derive(Clone, Copy)]
 pub enum Trigger {
     DpInit,
     Immediate,
 }
 
 // Which staged set an Apply is of.
-#[derive(Drop)]
+#[derive(Clone, Copy)]
 pub enum StagedSet {
     Set0,
     Set1,
@@ -47,28 +47,28 @@ impl StagedSet {
 }
 
 // What a write to a trigger's place asks for: which trigger it is, and of which staged set.
-#[derive(Drop)]
+#[derive(Clone, Copy)]
 pub struct Apply {
     pub trigger: Trigger,
     pub set: StagedSet,
 }
 
 // What a place of the image is to triggers: none's, or one's.
-#[derive(Drop)]
+#[derive(Clone, Copy)]
 pub enum TriggerPlace {
     NoTrigger,
     Applies(Apply),
 }
 
 // What was decided at the trigger: a pass with the lane to be copied next (the lane count where none is left), or a rejection with its code.
-#[derive(Drop)]
+#[derive(Clone, Copy)]
 pub enum Verdict {
     Pass(u8),
     Reject(u8),
 }
 
 // An Apply under way on a lane: the lanes of its group, the settings held for this lane, the trigger, the staged set and the verdict.
-#[derive(Drop)]
+#[derive(Clone, Copy)]
 pub struct Progress {
     pub group: u8,
     pub held: Settings,
@@ -78,14 +78,14 @@ pub struct Progress {
 }
 
 // The stage that a lane's Apply has reached.
-#[derive(Drop)]
+#[derive(Clone, Copy)]
 pub enum Stage {
     Idle,
     InProgress(Progress),
 }
 
 // What is kept of one lane beside its registers: the stage of its Apply, and which of its flags that can last are on, a bit for each, the first lowest.
-#[derive(Drop)]
+#[derive(Clone, Copy)]
 pub struct LaneRecord {
     pub stage: Stage,
     pub on: u16,
@@ -105,7 +105,7 @@ impl LaneRecord {
 }
 
 // What the module keeps beside its image: the lanes' records, and whether the low-power line is on.
-#[derive(Drop)]
+#[derive(Clone, Copy)]
 pub struct Working {
     pub lanes: [LaneRecord; 8],
     pub line: bool,

@@ -1,4 +1,6 @@
 // What the module is: the types of its lanes, paths, power states, pages, commands, events, answers and files. The definitions that say what it does are in specs/.
+#![tactic(auto)]
+
 pub mod answer;
 pub mod application;
 pub mod command;

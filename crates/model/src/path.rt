@@ -3,7 +3,7 @@ ghost use Rattle.std.specs.Prelude.{◌≡◌};
 ghost use Rattle.model.specs.PathStates.{code_of, state_of};
 
 // A path's state; Reserved stands for the codes that name none.
-#[derive(Drop)]
+#[derive(Clone, Copy)]
 pub enum PathState {
     Reserved,
     Deactivated,
@@ -17,7 +17,7 @@ pub enum PathState {
 
 // What decides where a path goes: S, it is to be taken down; R, it is to be taken down or brought up anew; D, its light is to go off, by R or because an
 // output is muted.
-#[derive(Drop)]
+#[derive(Clone, Copy)]
 pub struct Signals {
     pub deinit: bool,
     pub reinit: bool,

@@ -3,7 +3,7 @@ ghost use Rattle.std.specs.Prelude.{◌≡◌};
 ghost use Rattle.model.specs.Power.{module_code_of, module_state_of};
 
 // The module's state; Other stands for the codes that name none of these.
-#[derive(Drop)]
+#[derive(Clone, Copy)]
 pub enum ModuleState {
     Other,
     LowPwr,

@@ -3,7 +3,7 @@ ghost use Rattle.std.specs.Prelude.{◌≡◌};
 ghost use Rattle.model.specs.Statuses.{success, in_progress};
 
 // A lane's status, by its code.
-#[derive(Drop)]
+#[derive(Clone, Copy)]
 pub struct Status {
     pub code: u8,
 }

@@ -1,4 +1,6 @@
 // Replays the night file on standard input: the whole of it is checked, and then its records are played.
+#![tactic(auto)]
+
 ghost use Rattle.std.specs.Prelude.{◌≡◌, ◌≤◌, length};
 ghost use Rattle.model.specs.Map.{image_length};
 ghost use Rattle.model.specs.File.{file_check};

@@ -1,4 +1,6 @@
 // What a call that prints answers: that the lent buffer is too short, or how many bytes were printed into it.
+#![tactic(auto)]
+
 ghost use Rattle.std.specs.Prelude.{◌≡◌};
 ghost use Rattle.model.specs.Answers.{number};
 ghost use Rattle.model.specs.Text.{bad_line};

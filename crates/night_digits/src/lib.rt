@@ -1,4 +1,6 @@
 // The characters of digits: of one by itself, and of two decimal ones as one number.
+#![tactic(auto)]
+
 ghost use Rattle.std.specs.Prelude.{◌≡◌, ◌/◌, ◌%◌, ◌<◌};
 ghost use Rattle.model.specs.Text.{digit_text};
 

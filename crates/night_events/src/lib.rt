@@ -1,4 +1,6 @@
 // The event of each record of a night file, by the edition of its file.
+#![tactic(auto)]
+
 ghost use Rattle.std.specs.Prelude.{◌≡◌, ◌≤◌, ◌<◌, length};
 ghost use Rattle.model.specs.File.{later_editions, edition_among, kind_of, condition_kind, sample_kind, line_kind, sample_call, call_of, event_of, record_length};
 

@@ -1,4 +1,6 @@
 // Night files: the header, and the check of a whole file.
+#![tactic(auto)]
+
 ghost use Rattle.std.specs.Prelude.{◌≡◌, ◌+◌, ◌*◌, ◌≤◌, length, get_or};
 ghost use Rattle.bits.specs.Choice.{both};
 ghost use Rattle.bits.specs.Loop.{all_below};
@@ -38,7 +40,7 @@ pub const IMAGE_OFFSET: usize = 16;
 const RECORD_LIMIT: u32 = 5000;
 
 // An edition of the file: its number, and how many bytes of the image it carries.
-#[derive(Drop)]
+#[derive(Clone, Copy)]
 struct Edition {
     number: u8,
     image_bytes: usize,

@@ -1,4 +1,6 @@
 // One record of a night file: its event, and then its line.
+#![tactic(auto)]
+
 ghost use Rattle.std.specs.Prelude.{◌≡◌, ◌+◌, ◌≤◌, eqb, length};
 ghost use Rattle.bits.specs.Choice.{pick};
 ghost use Rattle.model.specs.Work.{early};
@@ -16,7 +18,7 @@ use model::event::Call;
 use model::lane::Working;
 
 // How far a replay has come: the bytes printed, and what the module keeps beside its image.
-#[derive(Drop)]
+#[derive(Clone, Copy)]
 pub struct Reached {
     pub at: usize,
     pub working: Working,

@@ -1,4 +1,6 @@
 // The records of a night file played in their order: each one's event, and its line.
+#![tactic(auto)]
+
 ghost use Rattle.std.specs.Prelude.{◌≡◌, ◌+◌, ◌*◌, ◌≤◌, length};
 ghost use Rattle.model.specs.Map.{image_length};
 ghost use Rattle.model.specs.Records.{idle_working};

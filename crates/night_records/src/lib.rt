@@ -1,4 +1,6 @@
 // Records of a night file: whether twelve bytes are one, in an edition.
+#![tactic(auto)]
+
 ghost use Rattle.std.specs.Prelude.{◌≡◌, ◌+◌, ◌*◌, ◌^◌, ◌≤◌, ◌<◌, length, ltb};
 ghost use Rattle.bits.specs.Choice.{pick};
 ghost use Rattle.model.specs.File.{later_editions, edition_among, written_bytes, is_record, record_length};

@@ -1,4 +1,6 @@
 // A night file replayed: from its bytes to all that is printed, in a lent buffer.
+#![tactic(auto)]
+
 ghost use Rattle.std.specs.Prelude.{◌≡◌, ◌*◌};
 ghost use Rattle.model.specs.File.{file_check};
 ghost use Rattle.model.specs.Night.{printed_text};

@@ -1,4 +1,6 @@
 // A checked night file: its image, and its records in runs, each as far as the output has room for a longest line.
+#![tactic(auto)]
+
 ghost use Rattle.std.specs.Prelude.{◌≡◌, ◌+◌, ◌*◌, ◌≤◌, ◌<◌, length};
 ghost use Rattle.model.specs.Map.{image_length};
 ghost use Rattle.model.specs.State.{state_with};
@@ -26,7 +28,7 @@ pub fn start_image(file: &[u8], offset: usize, image: &mut [u8])
 }
 
 // How far a night has come: the next record's index, the bytes that the run printed, and what the module keeps beside its image.
-#[derive(Drop)]
+#[derive(Clone, Copy)]
 pub struct Come {
     pub next: u32,
     pub at: usize,

@@ -1,5 +1,7 @@
 // The text of a line, put into a lent buffer: each put starts at a position and hands back the position after its text.
 // Division by ten is for text alone.
+#![tactic(auto)]
+
 ghost use Rattle.std.specs.Prelude.{◌≡◌, [], ◌∷◌, ◌+◌, ◌*◌, ◌/◌, ◌%◌, ◌≤◌, ◌<◌, length, take};
 ghost use Rattle.model.specs.Text.{ascii, space, digit_text, decimal, hex_bytes, line, bad_line};
 ghost use Rattle.night_text.specs.Buffer.{laid_at, Puts};

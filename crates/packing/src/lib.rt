@@ -1,4 +1,5 @@
 // The working state as bytes: the lengths. The definitions are in specs/, and that packing and reading back undo each other in proofs/.
+#![tactic(auto)]
 
 // The bytes of a lane's record.
 pub const RECORD_LENGTH: usize = 16;

@@ -1,4 +1,6 @@
 // A lane's record as sixteen bytes.
+#![tactic(auto)]
+
 ghost use Rattle.std.specs.Prelude.{◌≡◌};
 ghost use Rattle.packing.specs.Packing.{trigger_byte, set_byte, verdict_byte, verdict_number, record_bytes};
 

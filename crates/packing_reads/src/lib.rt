@@ -1,4 +1,6 @@
 // The working state in the front of a lent buffer: whether its bytes are one, and what they are read as.
+#![tactic(auto)]
+
 ghost use Rattle.std.specs.Prelude.{◌≡◌, ◌≤◌, ◌<◌, length};
 ghost use Rattle.bits.specs.Sets.{lane_count};
 ghost use Rattle.packing.specs.Packing.{state_length, lane_bytes, unpacked, is_packing};

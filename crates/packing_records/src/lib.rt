@@ -1,4 +1,6 @@
 // A lane's record from sixteen bytes, and whether they are one's.
+#![tactic(auto)]
+
 ghost use Rattle.std.specs.Prelude.{◌≡◌, ◌+◌, ◌*◌};
 ghost use Rattle.packing.specs.Packing.{trigger_of, set_of, verdict_of, progress_from, record_from, is_record};
 

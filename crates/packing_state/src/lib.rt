@@ -1,4 +1,6 @@
 // The working state laid over the front of a lent buffer.
+#![tactic(auto)]
+
 ghost use Rattle.std.specs.Prelude.{◌≡◌, ◌≤◌, ◌<◌, length};
 ghost use Rattle.bits.specs.Sets.{lane_count};
 ghost use Rattle.model.specs.Outcome.{laid_over};

@@ -1,4 +1,6 @@
 // Page selection, and where the half of memory starts that an address lies in.
+#![tactic(auto)]
+
 ghost use Rattle.std.specs.Prelude.{◌≡◌, length};
 ghost use Rattle.model.specs.Map.{image_length};
 ghost use Rattle.model.specs.Pages.{page_start, selected_start, index_of, selected_image};

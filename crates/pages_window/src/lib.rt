@@ -1,4 +1,6 @@
 // A window on a half of memory: it holds the lent image and where the half starts, and serves reads. Its read is thin: `take_in` does the work.
+#![tactic(auto)]
+
 ghost use Rattle.std.specs.Prelude.{◌≡◌, false, ◌+◌, ◌^◌, ◌≤◌, ◌<◌, length};
 ghost use Rattle.model.specs.Access.{shown_byte, taken_bytes};
 ghost use Rattle.model.specs.Outcome.{laid_over};

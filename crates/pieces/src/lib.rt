@@ -1,4 +1,6 @@
 // A night in pieces: begun, fed piece by piece, and finished. The image is lent; what else is carried goes in and comes back by value.
+#![tactic(auto)]
+
 ghost use Rattle.std.specs.Prelude.{◌≡◌, []};
 ghost use Rattle.model.specs.Stream.{begun};
 ghost use Rattle.pieces_carried.specs.Carrying.{kept};
@@ -10,7 +12,7 @@ use pieces_carried::Carried;
 use pieces_records::LONGEST_LINE;
 
 // What a feed and the end hand back: an answer, the bytes taken and printed, and what is carried on.
-#[derive(Drop)]
+#[derive(Clone, Copy)]
 pub struct Fed {
     pub answer: Answer,
     pub taken: usize,

@@ -1,4 +1,6 @@
 // A feed as far as no byte has to be looked at by itself: an image's bytes straight into the lent image, and records read where they lie.
+#![tactic(auto)]
+
 ghost use Rattle.std.specs.Prelude.{◌≡◌, ◌+◌, ◌≤◌, ◌<◌, length};
 ghost use Rattle.model.specs.Map.{image_length};
 ghost use Rattle.model.specs.declared.stream.Phase.TheVariants as phase;
@@ -10,7 +12,7 @@ use pieces_carried::Carried;
 use pieces_records::{LONGEST_LINE, Played};
 
 // Where a feed stands.
-#[derive(Drop)]
+#[derive(Clone, Copy)]
 pub struct Feeding {
     pub taken: usize,
     pub at: usize,

@@ -1,4 +1,6 @@
 // One byte of a night in pieces: what it changes and what it prints.
+#![tactic(auto)]
+
 ghost use Rattle.std.specs.Prelude.{◌≡◌, [], ◌∷◌, ◌++◌, ◌+◌, ◌≤◌, ◌<◌, length};
 ghost use Rattle.model.specs.Map.{image_length};
 ghost use Rattle.model.specs.File.{record_length};

@@ -1,4 +1,6 @@
 // What is carried from piece to piece of a night: before the first byte, with one byte more held, and after a bad line.
+#![tactic(auto)]
+
 ghost use Rattle.std.specs.Prelude.{◌≡◌, [], ◌+◌, ◌≤◌, ◌<◌, length};
 ghost use Rattle.model.specs.Stream.{begun, refused};
 ghost use Rattle.pieces_carried.specs.Carrying.{held_room, held_count, carried_by, padded, kept, IsTidy, HoldsOneMore, LeavesOfAny};
@@ -15,7 +17,7 @@ const HELD_ROOM: u8 = 16;
 pub const HEADER_MOST: u8 = 15;
 
 // What is carried from one piece to the next beside the image: which part is coming, the header's edition, the bytes held of a header or a record that is not whole, and the working state.
-#[derive(Drop)]
+#[derive(Clone, Copy)]
 pub struct Carried {
     pub phase: Phase,
     pub edition: u8,
@@ -25,7 +27,7 @@ pub struct Carried {
 }
 
 // How far a feed has come: the bytes printed, and what is carried.
-#[derive(Drop)]
+#[derive(Clone, Copy)]
 pub struct Taken {
     pub at: usize,
     pub carried: Carried,

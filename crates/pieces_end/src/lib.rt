@@ -1,4 +1,6 @@
 // The end of a night in pieces: after its last record, or too early.
+#![tactic(auto)]
+
 ghost use Rattle.std.specs.Prelude.{◌≤◌, length};
 ghost use Rattle.model.specs.Stream.{ended_in, ended};
 ghost use Rattle.model.specs.declared.stream.Phase.TheVariants.{InRecords};

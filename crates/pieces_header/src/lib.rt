@@ -1,4 +1,6 @@
 // A byte of the header, which is judged at the last of them.
+#![tactic(auto)]
+
 ghost use Rattle.std.specs.Prelude.{[], ◌∷◌, ◌++◌, ◌+◌, ◌≤◌, length};
 ghost use Rattle.model.specs.File.{image_offset};
 ghost use Rattle.model.specs.Stream.{took_header};

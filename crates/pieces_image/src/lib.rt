@@ -1,4 +1,6 @@
 // A byte of the image, which is judged at the last of them.
+#![tactic(auto)]
+
 ghost use Rattle.std.specs.Prelude.{◌≡◌, ◌+◌, ◌≤◌, ◌<◌, length, set};
 ghost use Rattle.model.specs.Map.{image_length};
 ghost use Rattle.model.specs.Refusals.{first_of, start_refusals};

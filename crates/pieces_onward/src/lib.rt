@@ -1,4 +1,6 @@
 // A piece, byte by byte where a byte has to be looked at by itself, and ahead where none has.
+#![tactic(auto)]
+
 ghost use Rattle.std.specs.Prelude.{◌≡◌, ◌+◌, ◌≤◌, ◌<◌, length};
 ghost use Rattle.model.specs.Map.{image_length};
 ghost use Rattle.night_text.specs.Buffer.{longest_line};

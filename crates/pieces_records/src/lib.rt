@@ -1,4 +1,6 @@
 // A run over records that lie whole in a row of bytes: a piece's own, or the one that a cut has split and that was gathered.
+#![tactic(auto)]
+
 ghost use Rattle.std.specs.Prelude.{◌≡◌, ◌-◌, ◌≤◌, length};
 ghost use Rattle.model.specs.Map.{image_length};
 ghost use Rattle.model.specs.File.{later_editions, edition_among};
@@ -13,7 +15,7 @@ use night_records::RECORD_LENGTH;
 pub const LONGEST_LINE: usize = 397;
 
 // Where a run stands: the bytes taken, the next record's index, the bytes printed, and the working state.
-#[derive(Drop)]
+#[derive(Clone, Copy)]
 pub struct Played {
     pub taken: usize,
     pub next: u32,

@@ -1,4 +1,6 @@
 // The module event, which moves the module one state on.
+#![tactic(auto)]
+
 ghost use Rattle.std.specs.Prelude.{◌≡◌, length};
 ghost use Rattle.model.specs.Map.{image_length};
 ghost use Rattle.model.specs.Power.{next_module_state, is_flagged, module_entered_image, module_moved_image, module_image};

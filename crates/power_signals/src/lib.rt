@@ -1,4 +1,6 @@
 // What the module's power asks of it: LowPwrS, whether every lane is DPDeactivated, and whether every path is held down.
+#![tactic(auto)]
+
 ghost use Rattle.std.specs.Prelude.{◌≡◌, length};
 ghost use Rattle.model.specs.Map.{image_length};
 ghost use Rattle.model.specs.Power.{shown_module_state, is_low_power, is_dark, holds_down};

@@ -1,4 +1,6 @@
 // The lanes' records: everything that looks into one or replaces one.
+#![tactic(auto)]
+
 ghost use Rattle.std.specs.Prelude.{◌≡◌, ◌<◌};
 ghost use Rattle.bits.specs.Sets.{has, mask_of, lane_count};
 ghost use Rattle.model.specs.Map.{lasting_count};

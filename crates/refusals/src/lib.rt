@@ -1,4 +1,6 @@
 // What is asked once of every call but start, and of a list: the refusals 1, 2 and 3.
+#![tactic(auto)]
+
 ghost use Rattle.std.specs.Prelude.{◌≡◌};
 ghost use Rattle.model.specs.State.{state_with};
 ghost use Rattle.model.specs.Refusals.{first_of, entry_refusals};

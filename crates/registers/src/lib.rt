@@ -1,4 +1,6 @@
 // The public calls: each answers every input.
+#![tactic(auto)]
+
 ghost use Rattle.std.specs.Prelude.{[]};
 ghost use Rattle.contracts.specs.Forms.{IsOutcome};
 ghost use Rattle.model.specs.State.{state_with};

@@ -1,4 +1,6 @@
 // Soundness: the test of document 01's conditions (a) to (f) over an image and the lanes' records.
+#![tactic(auto)]
+
 ghost use Rattle.std.specs.Prelude.{◌≡◌, ◌<◌, eqb, length};
 ghost use Rattle.bits.specs.Choice.{implies};
 ghost use Rattle.bits.specs.Loop.{all_below};

@@ -1,4 +1,6 @@
 // Condition (b) of soundness: the records of a group fit together, and what each holds is possible.
+#![tactic(auto)]
+
 ghost use Rattle.std.specs.Prelude.{◌≡◌, ◌<◌, ltb};
 ghost use Rattle.bits.specs.Choice.{both};
 ghost use Rattle.bits.specs.Sets.{has, lane_count, every_in};

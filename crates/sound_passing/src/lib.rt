@@ -1,4 +1,6 @@
 // Condition (e) of soundness: a passing group, its purpose, its state, the lanes it has copied and those that are left.
+#![tactic(auto)]
+
 ghost use Rattle.std.specs.Prelude.{◌≡◌, ◌<◌, length};
 ghost use Rattle.bits.specs.Sets.{mask_of, some_in, lane_count};
 ghost use Rattle.model.specs.Map.{active_set, staged_set0, image_length};

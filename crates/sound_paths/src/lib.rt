@@ -1,4 +1,6 @@
 // Whole paths: whether lanes share an AppSel and a DataPathID, fill what their descriptor asks, and agree on a state.
+#![tactic(auto)]
+
 ghost use Rattle.std.specs.Prelude.{◌≡◌, ◌<◌, length};
 ghost use Rattle.bits.specs.Sets.{has, lane_count};
 ghost use Rattle.model.specs.Map.{active_set, image_length};

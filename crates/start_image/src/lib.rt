@@ -1,4 +1,6 @@
 // Start: the images that it refuses, what stays of one that it takes, and what is set.
+#![tactic(auto)]
+
 ghost use Rattle.std.specs.Prelude.{◌≡◌, length};
 ghost use Rattle.model.specs.Refusals.{first_of, is_flat, is_back_to_front, start_refusals};
 ghost use Rattle.model.specs.Start.{start_value, started_state};

@@ -1,4 +1,6 @@
 // One event on a module whose image has its length, whatever event it is: the step of a run whose soundness is known.
+#![tactic(auto)]
+
 ghost use Rattle.std.specs.Prelude.{◌≡◌, length};
 ghost use Rattle.contracts.specs.Forms.{IsOutcome};
 ghost use Rattle.model.specs.State.{state_with};

@@ -1,4 +1,6 @@
 // The host's accesses, on a module whose image has its length: the refusals 4 and 5, then the access, the end of a write or what is on and shows again, then lower 3.0.
+#![tactic(auto)]
+
 ghost use Rattle.std.specs.Prelude.{◌≡◌, [], ◌+◌, ◌≤◌, length};
 ghost use Rattle.contracts.specs.Forms.{IsState, IsOutcome};
 ghost use Rattle.step_host.specs.Settled.{settled_state, plain_image};

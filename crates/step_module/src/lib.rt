@@ -1,4 +1,6 @@
 // The module's own events, on a module whose image has its length: the refusals 8, 7 and 6, then what the event does, then lower 3.0.
+#![tactic(auto)]
+
 ghost use Rattle.std.specs.Prelude.{◌≡◌, [], length};
 ghost use Rattle.contracts.specs.Forms.{IsOutcome};
 ghost use Rattle.model.specs.State.{state_with};

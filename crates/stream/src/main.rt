@@ -1,5 +1,7 @@
 // Replays the night file on standard input as it comes: one read is one piece, and a piece's lines are written before the next read.
 // With the argument N, 1 to 65536, a read takes at most N bytes.
+#![tactic(auto)]
+
 ghost use Rattle.std.specs.Prelude.{◌≡◌, ◌≤◌, length};
 ghost use Rattle.model.specs.Map.{image_length};
 ghost use Rattle.night_text.specs.Buffer.{longest_line};

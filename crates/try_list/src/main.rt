@@ -1,4 +1,6 @@
 // Runs a list of four events from start, in a buffer with room and in one without, and the same events by a call each; it writes the answers as digits.
+#![tactic(auto)]
+
 ghost use Rattle.contracts.specs.Forms.{IsOutcome};
 ghost use Rattle.model.specs.State.{state_with};
 ghost use Rattle.model.specs.Outcome.{list_outcome};

@@ -1,4 +1,6 @@
 // Paths: the lanes of an AppSel, a DataPathID or a state, which of them an active DataPathID joins, and the states that a path rests in.
+#![tactic(auto)]
+
 ghost use Rattle.std.specs.Prelude.{◌≡◌, ◌+◌, ◌≤◌, ◌<◌, eqb, length};
 ghost use Rattle.bits.specs.Number.{field};
 ghost use Rattle.bits.specs.Sets.{mask_of, lane_count};

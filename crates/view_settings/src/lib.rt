@@ -1,4 +1,6 @@
 // The settings of a lane: read from a set of the register map, written to the active one, and what their parts say.
+#![tactic(auto)]
+
 ghost use Rattle.std.specs.Prelude.{◌≡◌, ◌+◌, ◌≤◌, ◌<◌, length};
 ghost use Rattle.model.specs.View.{settings_at, app_sel, path_id, explicit, is_used};
 ghost use Rattle.model.specs.Work.{by_module, written_settings, with_active};

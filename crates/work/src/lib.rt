@@ -1,4 +1,6 @@
 // The work step: one lane's Apply taken one step further.
+#![tactic(auto)]
+
 ghost use Rattle.std.specs.Prelude.{◌≡◌, ◌<◌, length};
 ghost use Rattle.model.specs.Map.{image_length};
 ghost use Rattle.bits.specs.Sets.{lane_count};

@@ -1,4 +1,6 @@
 // The closing step: the group's status, what is pending, the lanes to be commissioned, and its records idle again.
+#![tactic(auto)]
+
 ghost use Rattle.std.specs.Prelude.{◌≡◌, false, length};
 ghost use Rattle.model.specs.Map.{image_length};
 ghost use Rattle.model.specs.PathStates.{commissioned};
@@ -13,7 +15,7 @@ use model::path::PathState;
 use model::status::Status;
 
 // What a work step hands back: the lanes to be commissioned, a bit each, and the working state.
-#[derive(Drop)]
+#[derive(Clone, Copy)]
 pub struct Worked {
     pub mask: u8,
     pub working: Working,

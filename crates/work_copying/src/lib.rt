@@ -1,4 +1,6 @@
 // The copying step: one lane's held settings become its active ones.
+#![tactic(auto)]
+
 ghost use Rattle.std.specs.Prelude.{◌≡◌, ◌<◌, length};
 ghost use Rattle.model.specs.Map.{image_length};
 ghost use Rattle.bits.specs.Sets.{lane_count};

@@ -1,5 +1,3 @@
--- `bits_sets::with_lane` meets its contract. Assumes nothing.
-use borrow.Author.Rules.{rules}
 use native.Mathlib.Nat.{one-mul}
 use native.Mathlib.Omega.{arith}
 use mathlib.Core.Path.{◌≡◌}
@@ -9,19 +7,14 @@ use Prim.Native.Nat.{ℕ, ◌*◌, ◌%◌, ◌^◌, ◌<◌}
 use lib.Pow.{shl_exact}
 use Rattle.bits.proofs.Sets.{put_lane}
 use Rattle.bits.specs.Sets.{lane_count}
-use Rattle.bits_sets.proofs.with_lane.Statement.{statement}
-use Rattle.bits_sets.proofs.with_lane.Tie as tie
+use Rattle.bits_sets.proofs.with_lane.Goals as goal
 
 -- a lane's bit fits a byte
 fits : (b : Bool) (l : ℕ) → l < lane_count → bool_byte b * 2 ^ l % 2 ^ lane_count ≡ bool_byte b * 2 ^ l
 fits true l h = shl_exact 1 l lane_count (omega arith) (omega arith)
 fits false l h = shl_exact 1 l lane_count (omega arith) (omega arith)
 
-returns : tie.Need-returns
-returns c =
-    let s = c.args in
+pub returns : goal.returns
+returns c = let s = c.args in
     rw (fits true s.lane c.requires, one-mul (2 ^ s.lane), fits s.yes s.lane c.requires)
     (put_lane lane_count s.set s.lane s.yes (omega arith) c.requires)
-
-pub with-lane-spec : {M : Type 1} → statement M
-with-lane-spec = tie.close (tie.spec (λ c. search rules) (λ c. search rules) (λ c. search rules) returns)
