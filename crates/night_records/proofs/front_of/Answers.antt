@@ -1,0 +1,7 @@
+use native.Mathlib.Omega.{arith}
+use Rattle.night_records.specs.Clear.{low_first}
+use Rattle.night_records.proofs.front_of.Goals as goal
+
+pub returns : goal.returns
+unfolding low_first
+returns c = omega (arith, c.shared_slice_known-4-1.given 3)

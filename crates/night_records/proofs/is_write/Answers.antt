@@ -1,0 +1,18 @@
+use native.Mathlib.Omega.{arith}
+use mathlib.Core.Path.{◌≡◌}
+use Prim.Native.Nat.{◌+◌, ◌-◌}
+use Rattle.model.specs.File.{written_bytes}
+use Rattle.night_records.proofs.Records.{tail_below}
+use Rattle.night_records.proofs.is_write.Goals as goal
+
+pub returns-then-n-eq0 : goal.returns-then-n-eq0
+unfolding written_bytes
+returns-then-n-eq0 c = rw (← c.data_bytes-n.ensures.0, c.if-n-eq0.true) c.is_clear_from_3.ensures
+
+pub returns : goal.returns
+unfolding written_bytes
+returns c = let s = c in
+    let n = c.data_bytes-n.result in
+    let below = tail_below s.args.bytes.now (λ i. omega (arith, c.shared_slice_known-1.given i)) (n - 1) in
+    let e c 4 + (n - 1) ≡ 3 + n = omega arith in
+    rw (← c.data_bytes-n.ensures.0, ← e, c.byte_limit.ensures, s.requires.1) below
