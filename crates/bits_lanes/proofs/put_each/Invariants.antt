@@ -8,7 +8,7 @@ use Rattle.bits.specs.Sets.{has}
 use Rattle.bits_lanes.proofs.put_each.Given as goal
 
 abbrev pub invariant-loop-lane : goal.invariant-loop-lane
-invariant-loop-lane l = (l.lane ≤ 8) × (length l.image ≡ length l.initial.image) × (l.image ≡ each (has l.set) (λ l y. put y (lane_field l.base l.width l) l.v) l.lane l.initial.image)
+invariant-loop-lane now = (now.lane ≤ 8) × (length now.image ≡ length now.initial.image) × (now.image ≡ each (has now.set) (λ l y. put y (lane_field now.base now.width l) now.v) now.lane now.initial.image)
 
 abbrev pub decreases-loop-lane : goal.decreases-loop-lane
 decreases-loop-lane l = 8 - l.lane

@@ -4,56 +4,56 @@ use Rattle.hardware_table.proofs.next_state.Goals as goal
 
 pub returns-in-Reserved : goal.returns-in-Reserved
 unfolding next_state
-returns-in-Reserved c = rw c.enum_told-1.given.1
+returns-in-Reserved c = rw c.in-Reserved.is
 
 pub returns-then-by : goal.returns-then-by
 unfolding next_state pick
-returns-then-by c = rw (c.enum_told-in-Deactivated-1.given.1, c.if-by.true)
+returns-then-by c = rw (c.in-Deactivated.is, c.if-by.true)
 
 pub returns-else-by : goal.returns-else-by
 unfolding next_state pick
-returns-else-by c = rw (c.enum_told-in-Deactivated-1.given.1, c.if-by.false)
+returns-else-by c = rw (c.in-Deactivated.is, c.if-by.false)
 
 pub returns-then-by-2 : goal.returns-then-by-2
 unfolding next_state pick
-returns-then-by-2 c = rw (c.enum_told-in-Init-1.given.1, c.if-by-2.true)
+returns-then-by-2 c = rw (c.in-Init.is, c.if-by-2.true)
 
 pub returns-else-by-2 : goal.returns-else-by-2
 unfolding next_state pick
-returns-else-by-2 c = rw (c.enum_told-in-Init-1.given.1, c.if-by-2.false)
+returns-else-by-2 c = rw (c.in-Init.is, c.if-by-2.false)
 
 pub returns-in-Deinit : goal.returns-in-Deinit
 unfolding next_state
-returns-in-Deinit c = rw c.enum_told-in-Deinit-1.given.1
+returns-in-Deinit c = rw c.in-Deinit.is
 
 pub returns-then-by-3 : goal.returns-then-by-3
 unfolding next_state pick
-returns-then-by-3 c = rw (c.enum_told-in-Activated-1.given.1, c.if-by-3.true)
+returns-then-by-3 c = rw (c.in-Activated.is, c.if-by-3.true)
 
 pub returns-else-by-3 : goal.returns-else-by-3
 unfolding next_state pick
-returns-else-by-3 c = rw (c.enum_told-in-Activated-1.given.1, c.if-by-3.false)
+returns-else-by-3 c = rw (c.in-Activated.is, c.if-by-3.false)
 
 pub returns-then-by-4 : goal.returns-then-by-4
 unfolding next_state pick
-returns-then-by-4 c = rw (c.enum_told-in-TxTurnOn-1.given.1, c.if-by-4.true)
+returns-then-by-4 c = rw (c.in-TxTurnOn.is, c.if-by-4.true)
 
 pub returns-else-by-4 : goal.returns-else-by-4
 unfolding next_state pick
-returns-else-by-4 c = rw (c.enum_told-in-TxTurnOn-1.given.1, c.if-by-4.false)
+returns-else-by-4 c = rw (c.in-TxTurnOn.is, c.if-by-4.false)
 
 pub returns-in-TxTurnOff : goal.returns-in-TxTurnOff
 unfolding next_state
-returns-in-TxTurnOff c = rw c.enum_told-in-TxTurnOff-1.given.1
+returns-in-TxTurnOff c = rw c.in-TxTurnOff.is
 
 pub returns-then-by-5 : goal.returns-then-by-5
 unfolding next_state pick
-returns-then-by-5 c = rw (c.enum_told-in-Initialized-1.given.1, c.if-by-5.true)
+returns-then-by-5 c = rw (c.in-Initialized.is, c.if-by-5.true)
 
 pub returns-then-by-6 : goal.returns-then-by-6
 unfolding next_state pick
-returns-then-by-6 c = rw (c.enum_told-in-Initialized-1.given.1, c.if-by-5.false, c.if-by-6.true)
+returns-then-by-6 c = rw (c.in-Initialized.is, c.if-by-5.false, c.if-by-6.true)
 
 pub returns-else-by-6 : goal.returns-else-by-6
 unfolding next_state pick
-returns-else-by-6 c = rw (c.enum_told-in-Initialized-1.given.1, c.if-by-5.false, c.if-by-6.false)
+returns-else-by-6 c = rw (c.in-Initialized.is, c.if-by-5.false, c.if-by-6.false)

@@ -4,4 +4,4 @@ use Rattle.night_records.proofs.front_of.Goals as goal
 
 pub returns : goal.returns
 unfolding low_first
-returns c = omega (arith, c.shared_slice_known-4-1.given 3)
+returns c = omega (arith, c.type_inv.bytes 3)

@@ -7,5 +7,5 @@ use Rattle.night_records.proofs.is_clear_from_3.Goals as goal
 
 pub returns : goal.returns
 returns c = let bytes = c.args.bytes.now in
-    let none = tail_none bytes (λ i. omega (arith, c.shared_slice_known-1.given i)) in
-    clear_step 3 bytes _ _ (omega arith) refl (ap (λ (t c ℕ). eqb t 0) c.requires.1 ∙ none)
+    let none = tail_none bytes (λ i. omega (arith, c.type_inv.bytes i)) in
+    clear_step 3 bytes _ _ (omega arith) refl (ap (λ (t : ℕ). eqb t 0) c.requires.1 ∙ none)

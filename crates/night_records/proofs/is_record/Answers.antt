@@ -13,5 +13,5 @@ returns-then-kind-eq-WRITE c = record_by _ _ _ _ c.is_write.ensures (rw ((six_fo
 
 pub returns : goal.returns
 returns c = let a = c.args in
-    rw (c.Tail-of.ensures, c.front_of.ensures, c.front_limit-limit.ensures)
-    (and_both _ _ ∙ front_is a.bytes.now (λ i. omega (arith, c.shared_slice_known-2-1.given i)) a.edition c.if-kind-eq-WRITE.false)
+    rw (c.tail_of-tail.ensures, c.front_of.ensures, c.front_limit-limit.ensures)
+    (and_both _ _ ∙ front_is a.bytes.now (λ i. omega (arith, c.type_inv.bytes i)) a.edition c.if-kind-eq-WRITE.false)

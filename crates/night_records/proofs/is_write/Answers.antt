@@ -13,6 +13,6 @@ pub returns : goal.returns
 unfolding written_bytes
 returns c = let s = c in
     let n = c.data_bytes-n.result in
-    let below = tail_below s.args.bytes.now (λ i. omega (arith, c.shared_slice_known-1.given i)) (n - 1) in
-    let e c 4 + (n - 1) ≡ 3 + n = omega arith in
+    let below = tail_below s.args.bytes.now (λ i. omega (arith, c.type_inv.bytes i)) (n - 1) in
+    let e : 4 + (n - 1) ≡ 3 + n = omega arith in
     rw (← c.data_bytes-n.ensures.0, ← e, c.byte_limit.ensures, s.requires.1) below
