@@ -1,3 +1,4 @@
+use native.Mathlib.Omega.{arith}
 use mathlib.Core.Path.{sym}
 use borrow.Author.Tests.{ne_eqb}
 use Rattle.bits.specs.Choice.{pick}
@@ -22,4 +23,4 @@ unfolding trigger_at find_trigger pick
 returns-in-563 c = rw c.in-563.is c.applies-in-563.ensures
 
 pub returns-in_default : goal.returns-in_default
-returns-in_default c = sym (other_place c.args.i (ne_eqb _ _ (omega arith)) (ne_eqb _ _ (omega arith)) (ne_eqb _ _ (omega arith)) (ne_eqb _ _ (omega arith)))
+returns-in_default c = sym (other_place c.args.i (ne_eqb c.args.i 527 (omega arith)) (ne_eqb c.args.i 528 (omega arith)) (ne_eqb c.args.i 562 (omega arith)) (ne_eqb c.args.i 563 (omega arith)))
