@@ -1,0 +1,16 @@
+use native.Mathlib.Omega.{arith}
+use lib.ListN.{length}
+use Rattle.night_text.proofs.Decimals.{decimal_parts, length_parts}
+use Rattle.night_text.proofs.Laid.{puts_then}
+use Rattle.night_text.proofs.put_many.Goals as goal
+
+pub put_few-at-requires : goal.put_few-at-requires
+put_few-at-requires c = let a = c.args in (omega arith, omega (arith, length_parts a.x (omega arith) (omega arith)))
+
+pub put_four-requires : goal.put_four-requires
+put_four-requires c = let a = c.args in (omega arith, omega (arith, length_parts a.x (omega arith) (omega arith)))
+
+pub returns : goal.returns
+returns c = let a = c.args in
+    let n = length_parts a.x (omega arith) (omega arith) in
+    rw (decimal_parts a.x (omega arith) (omega arith)) (puts_then (omega arith) c.put_few-at.ensures c.put_four.ensures)
