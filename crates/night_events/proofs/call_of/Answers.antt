@@ -1,3 +1,4 @@
+use native.Mathlib.Omega.{arith}
 use mathlib.Core.Path.{◌∙◌}
 use Rattle.bits.specs.Choice.{pick}
 use Rattle.model.specs.File.{call_of}
@@ -23,5 +24,4 @@ returns-in-4 c = rw ((six_forms c.args.edition).forms, c.in-4.is)
 
 -- a sample, and a kind that is not listed
 pub returns-in_default : goal.returns-in_default
-returns-in_default c = let r = (omega arith) in
-    c.sample_call.ensures ∙ other_call _ _ r.0.0.0.0.0.0.1 r.0.0.0.0.0.1 r.0.0.0.0.1 r.0.0.0.1 r.0.0.1 r.0.1 r.1
+returns-in_default c = c.sample_call.ensures ∙ other_call _ _ (omega arith) (omega arith) (omega arith) (omega arith) (omega arith) (omega arith) (omega arith)
