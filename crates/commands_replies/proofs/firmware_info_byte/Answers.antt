@@ -1,3 +1,4 @@
+use native.Mathlib.Omega.{arith}
 use borrow.Author.Tests.{ne_eqb}
 use Rattle.bits.specs.Choice.{pick}
 use Rattle.model.specs.Commands.{reply_byte}
@@ -17,4 +18,4 @@ returns-in-211 c = rw c.in-211.is
 
 pub returns-in_default : goal.returns-in_default
 unfolding reply_byte pick
-returns-in_default c = rw (ne_eqb _ _ (omega arith), ne_eqb _ _ (omega arith), ne_eqb _ _ (omega arith))
+returns-in_default c = rw (ne_eqb c.args.address 137 (omega arith), ne_eqb c.args.address 210 (omega arith), ne_eqb c.args.address 211 (omega arith))

@@ -1,3 +1,4 @@
+use native.Mathlib.Omega.{arith}
 use mathlib.Core.Path.{sym}
 use Rattle.commands_replies.proofs.Replies.{features_138, features_146, features_none}
 use Rattle.commands_replies.proofs.module_features_byte.Goals as goal
@@ -9,4 +10,4 @@ pub returns-in-146 : goal.returns-in-146
 returns-in-146 c = rw c.in-146.is (sym features_146)
 
 pub returns-in_default : goal.returns-in_default
-returns-in_default c = sym (features_none _ (omega arith) (omega arith))
+returns-in_default c = sym (features_none c.args.address (omega arith) (omega arith))
