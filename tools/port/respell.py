@@ -99,7 +99,7 @@ def imported(text, own):
     return out
 
 
-def turned(text, new, foreign, comment, by_hand=False, dashes=True):
+def turned(text, new, foreign, comment, by_hand=False, dashes=True):  # in a .rt file only words with a capital are turned: functions keep their names
     """The text with its words renamed. Comments are turned only in what stands between backticks."""
 
     def one(m):
@@ -109,7 +109,7 @@ def turned(text, new, foreign, comment, by_hand=False, dashes=True):
         after_dot = m.start() > 0 and m.string[m.start() - 1] == "."
         if "-" in w and (not dashes or (by_hand and after_dot)):
             return snake(w) if CAMEL.search(w) else w
-        if w in new:
+        if w in new and (comment == "--" or CAMEL.search(w)):
             return new[w]
         return snake(w) if CAMEL.search(w) else w
 

@@ -42,7 +42,7 @@ fn is_set_0(set: StagedSet) -> bool
     }
 }
 
-fn same_set_lem(a: StagedSet, b: StagedSet) -> bool
+fn same_set(a: StagedSet, b: StagedSet) -> bool
     ensures { result ≡ same_set a b }
 {
     match a {
@@ -95,7 +95,7 @@ fn agrees(p: Progress, stage: Stage) -> bool
             let other_verdict = q.verdict;
             (p.group == q.group)
                 & (same_trigger(trigger, other_trigger)
-                    & (same_set_lem(set, other_set) & same_verdict(verdict, other_verdict)))
+                    & (same_set(set, other_set) & same_verdict(verdict, other_verdict)))
         }
     }
 }
