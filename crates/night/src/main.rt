@@ -7,11 +7,12 @@ ghost use Rattle.model.specs.File.{file_check};
 ghost use Rattle.model.specs.declared.file.FileCheck.TheVariants as found;
 ghost use Rattle.night_text.specs.Buffer.{longest_line};
 
-use libc::{STDIN_FILENO, STDOUT_FILENO};
 use map::IMAGE_LENGTH;
 use model::answer::Answer;
 use model::file::FileCheck;
 use model::lane::Working;
+use std::io;
+use std::io::Read;
 
 // The longest file, and one byte more to notice a longer one.
 const INPUT: usize = 60913;
@@ -19,16 +20,22 @@ const INPUT: usize = 60913;
 const OUTPUT: usize = 16384;
 
 // The only line of a file that is not replayed.
-fn print_bad(answer: Answer, out: &mut [u8])
+fn print_bad(rt: &impl Print, answer: Answer, out: &mut [u8]) -> io::Result<()>
     requires { longest_line ≤ length out.old }
 {
     let number = answer.number();
     let n = night_text::put_bad(out, 0, number);
-    io::write_all(STDOUT_FILENO, &out[..n]);
+    rt.write_all(&out[..n])
 }
 
 // The lines of a good file. Whenever the output is full it is written.
-fn print_lines(file: &[u8], count: u32, image: &mut [u8], out: &mut [u8])
+fn print_lines(
+    rt: &impl Print,
+    file: &[u8],
+    count: u32,
+    image: &mut [u8],
+    out: &mut [u8],
+) -> io::Result<()>
     requires { (file_check file.now ≡ found.Good count) × (length image.old ≡ image_length) × (longest_line ≤ length out.old) }
 {
     let offset = night_file::records_offset(file);
@@ -37,33 +44,54 @@ fn print_lines(file: &[u8], count: u32, image: &mut [u8], out: &mut [u8])
     let mut next = 0;
     while next < count {
         let come = night_runs::play_run(image, working, file, offset, next, count, out);
-        io::write_all(STDOUT_FILENO, &out[..come.at]);
+        rt.write_all(&out[..come.at])?;
         next = come.next;
         working = come.working;
     }
+    Ok(())
 }
 
-fn print_night(file: &[u8], image: &mut [u8], out: &mut [u8])
+fn print_night(rt: &impl Print, file: &[u8], image: &mut [u8], out: &mut [u8]) -> io::Result<()>
     requires { (length image.old ≡ image_length) × (longest_line ≤ length out.old) }
 {
     let found = night_file::check(file);
     match found {
-        FileCheck::Refused(answer) => print_bad(answer, out),
-        FileCheck::Good(count) => print_lines(file, count, image, out),
+        FileCheck::Refused(answer) => print_bad(rt, answer, out),
+        FileCheck::Good(count) => print_lines(rt, file, count, image, out),
     }
 }
 
-// Reads to the end of the input or of the buffer, and prints what was read.
-fn replay_input(input: &mut [u8], image: &mut [u8], out: &mut [u8])
-    requires { (length image.old ≡ image_length) × (longest_line ≤ length out.old) }
+// Reads until the buffer is full, the input ends or a read fails, and hands back how many bytes it put at the front of the buffer.
+fn read_full(input: &mut impl Read, buffer: &mut [u8]) -> usize
+    ensures { result ≤ length buffer.new }
 {
-    let n = io::read_full(STDIN_FILENO, input);
-    print_night(&input[..n], image, out)
+    let mut come = 0;
+    while come < buffer.len() {
+        let n = input.read(&mut buffer[come..]).unwrap_or(0);
+        if n == 0 {
+            break;
+        }
+        come += n;
+    }
+    come
 }
 
-fn main() {
+// Reads to the end of the input or of the buffer, and prints what was read.
+fn replay_input(
+    rt: &(impl Input + Print),
+    input: &mut [u8],
+    image: &mut [u8],
+    out: &mut [u8],
+) -> io::Result<()>
+    requires { (length image.old ≡ image_length) × (longest_line ≤ length out.old) }
+{
+    let n = read_full(&mut rt.reader(), input);
+    print_night(rt, &input[..n], image, out)
+}
+
+fn main(rt: HostRuntime) -> io::Result<()> {
     let mut input = [0u8; INPUT];
     let mut image = [0u8; IMAGE_LENGTH];
     let mut out = [0u8; OUTPUT];
-    replay_input(&mut input, &mut image, &mut out)
+    replay_input(&rt, &mut input, &mut image, &mut out)
 }

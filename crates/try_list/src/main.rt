@@ -6,9 +6,9 @@ ghost use Rattle.model.specs.State.{state_with};
 ghost use Rattle.model.specs.Outcome.{list_outcome};
 
 use contracts::Returned;
-use libc::STDOUT_FILENO;
 use model::event::{Call, Event};
 use model::lane::Working;
+use std::io;
 
 // A list of four events by value, for those who have no slice of events to lend.
 fn play_four(image: &mut [u8], answers: &mut [u8], w: Working, list: [Event; 4]) -> Returned
@@ -55,7 +55,7 @@ fn night() -> [Event; 4] {
 }
 
 // Room for six answers: four are given, and the rest of the buffer is as it was.
-fn with_room(image: &mut [u8]) {
+fn with_room(rt: &impl Print, image: &mut [u8]) -> io::Result<()> {
     let mut answers = [254u8; 6];
     let started = registers::start(image);
     let left = play_four(image, &mut answers, started.working, night());
@@ -70,11 +70,11 @@ fn with_room(image: &mut [u8]) {
         digit(answer.number()),
         10,
     ];
-    io::write_all(STDOUT_FILENO, &text);
+    rt.write_all(&text)
 }
 
 // Room for three: the list is refused, and no answer is given.
-fn without_room(image: &mut [u8]) {
+fn without_room(rt: &impl Print, image: &mut [u8]) -> io::Result<()> {
     let mut answers = [254u8; 3];
     let started = registers::start(image);
     let left = play_four(image, &mut answers, started.working, night());
@@ -86,34 +86,34 @@ fn without_room(image: &mut [u8]) {
         digit(answer.number()),
         10,
     ];
-    io::write_all(STDOUT_FILENO, &text);
+    rt.write_all(&text)
 }
 
 // One event by a call of its own: its answer's digit is written, and the records come back.
-fn one_call(image: &mut [u8], w: Working, asked: Event) -> Working {
+fn one_call(rt: &impl Print, image: &mut [u8], w: Working, asked: Event) -> io::Result<Working> {
     let mut buffer = [0u8; 4];
     let left = registers::call(image, w, asked, &mut buffer);
     let answer = left.answer;
     let text = [digit(answer.number())];
-    io::write_all(STDOUT_FILENO, &text);
+    rt.write_all(&text)?;
     let next = left.working;
-    next
+    Ok(next)
 }
 
 // The same events by a call each: the same answers.
-fn by_calls(image: &mut [u8]) {
+fn by_calls(rt: &impl Print, image: &mut [u8]) -> io::Result<()> {
     let started = registers::start(image);
     let events = night();
-    let first = one_call(image, started.working, events[0]);
-    let second = one_call(image, first, events[1]);
-    let third = one_call(image, second, events[2]);
-    one_call(image, third, events[3]);
-    io::write_all(STDOUT_FILENO, b"\n");
+    let first = one_call(rt, image, started.working, events[0])?;
+    let second = one_call(rt, image, first, events[1])?;
+    let third = one_call(rt, image, second, events[2])?;
+    one_call(rt, image, third, events[3])?;
+    rt.write_all(b"\n")
 }
 
-fn main() {
+fn main(rt: HostRuntime) -> io::Result<()> {
     let mut image = [0u8; 896];
-    with_room(&mut image);
-    without_room(&mut image);
-    by_calls(&mut image);
+    with_room(&rt, &mut image)?;
+    without_room(&rt, &mut image)?;
+    by_calls(&rt, &mut image)
 }
