@@ -12,7 +12,7 @@ use model::lane::Working;
 
 // The admission of a list of n events.
 pub fn begin<'a>(image: &'a mut [u8], answers: &'a mut [u8], w: Working, n: usize) -> Run
-    ensures { record { image = image.exit.now; answers = answers.new; result = result } ≡ begin_of n image.entry.now answers.old w }
+    ensures { record { image = image.exit.now; answers = answers.new; r = result } ≡ begin_of n image.entry.now answers.old w }
 {
     let answer = refusals::refusal(image, w);
     list_runs::admitted(answer, answers.len(), w, n)

@@ -26,9 +26,9 @@ stepped : (s : State) (d e : Event) (buffer : List ℕ) {image left : List ℕ} 
 stepped s d e buffer p q l = rw (p, q) at l
 
 -- how many bytes are shown, with the event of the record
-shown_by : (answer : ℕ) {count asked : ℕ} (d e : Event) → count ≡ pick (eqb answer 0) asked 0 → asked ≡ read_count d.call → d ≡ e → count ≡ shown_by answer e.call
+shown_count : (answer : ℕ) {count asked : ℕ} (d e : Event) → count ≡ pick (eqb answer 0) asked 0 → asked ≡ read_count d.call → d ≡ e → count ≡ shown_by answer e.call
 unfolding shown_by
-shown_by answer d e p q r = p ∙ rw (q, r)
+shown_count answer d e p q r = p ∙ rw (q, r)
 
 pub put_line-at-requires : goal.put_line-at-requires
 unfolding step_outcome
@@ -37,7 +37,7 @@ put_line-at-requires c = let a = c.args in
     let e = event_of (edition_among later_editions a.edition) a.bytes.now in
     let l = stepped s _ e a.buffer.now c.event_of-event.ensures (omega arith) c.step-left.ensures in
     let n = c.number-number.ensures ∙ ap number l.answer in
-    let m = shown_by c.number-number.result _ e c.shown-count.ensures c.read_count-asked.ensures c.event_of-event.ensures in (
+    let m = shown_count c.number-number.result _ e c.shown-count.ensures c.read_count-asked.ensures c.event_of-event.ensures in (
       omega (arith, shown_most s e _ _ _ _ l.buffer n m),
       shown_fits s e _ _ _ _ l.buffer n m a.index a.reached.at (length a.out.now) (omega arith),
     )
@@ -49,7 +49,7 @@ returns c = let a = c.args in
     let e = event_of (edition_among later_editions a.edition) a.bytes.now in
     let l = stepped s _ e a.buffer.now c.event_of-event.ensures (omega arith) c.step-left.ensures in
     let n = c.number-number.ensures ∙ ap number l.answer in
-    let m = shown_by c.number-number.result _ e c.shown-count.ensures c.read_count-asked.ensures c.event_of-event.ensures in
+    let m = shown_count c.number-number.result _ e c.shown-count.ensures c.read_count-asked.ensures c.event_of-event.ensures in
     record {
       registers = l.image;
       lanes = l.working;

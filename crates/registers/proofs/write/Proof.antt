@@ -1,7 +1,0 @@
--- `registers::write` meets its contract. Assumes nothing.
-use borrow.Author.Rules.{rules}
-use Rattle.registers.proofs.write.Statement.{statement}
-use Rattle.registers.proofs.write.Tie as tie
-
-pub write_spec : {M : Type 1} → statement M
-write_spec = tie.close (tie.spec (λ c κs. search rules) (λ c κs. search rules) (λ c. search rules) (λ c. rw c.before.before.before.write.ensures at c.before.before.without-buffer.ensures))
