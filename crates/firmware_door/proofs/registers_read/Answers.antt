@@ -1,0 +1,8 @@
+use mathlib.Core.Path.{refl}
+use Rattle.model.specs.Step.{event_effect}
+use Rattle.door_calls.proofs.Calls.{left_asked}
+use Rattle.firmware_door.proofs.registers_read.Goals as goal
+
+pub returns : goal.returns
+unfolding event_effect
+returns c = left_asked _ _ _ _ _ _ _ _ _ c.read.ensures (λ s. refl) c.call.ensures

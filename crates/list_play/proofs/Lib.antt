@@ -1,2 +1,0 @@
--- A slice lent again in a walk by hand.
-pub mod Again

@@ -1,0 +1,80 @@
+use borrow.Author.Rules.{rules}
+use native.Mathlib.Omega.{arith}
+use mathlib.Core.Path.{◌≡◌, sym, ap, ◌∙◌}
+use mathlib.Core.List.{List}
+use Prim.Native.Nat.{ℕ, ◌+◌, ◌<◌, ◌≤◌}
+use lib.ListN.{length, take, drop, get_or}
+use Rattle.model.specs.Map.{Image}
+use Rattle.model.specs.declared.event.Event.{Event}
+use Rattle.model.specs.declared.lane.Working.{Working}
+use Rattle.list_turns.specs.Turns.{Playing, begin_of, turn_of, turns_of, played_of}
+use Rattle.list_turns.proofs.Laws.{none, begin_at, begin_end, begin_room, begin_length, turn_at, turn_end, turns_next, turns_end, played_leaves}
+use Rattle.list_play.proofs.play.Goals as goal
+
+-- what is left to do from where the list stands
+abbrev onward : List Event → Playing → Playing
+onward es s = turns_of (drop s.r.at (take s.r.end es)) s
+
+-- from its admission on that is the whole list
+begun : (es : List Event) (x : Image) (answers : List ℕ) (w : Working) (s : Playing) → s ≡ begin_of (length es) x answers w → onward es s ≡ played_of es x answers w
+begun es x answers w s e =
+    let b = begin_of (length es) x answers w in
+    ap (onward es) e ∙ ap (λ i. turns_of (drop i (take b.r.end es)) b) (begin_at (length es) x answers w)
+
+-- a turn leaves it the same
+turned : (es : List Event) (e : Event) (s t : Playing) → t ≡ turn_of e s → e ≡ get_or es s.r.at none → s.r.at < s.r.end → s.r.end ≤ length es → onward es t ≡ onward es s
+turned es e s t p q h l =
+    ap (onward es) p
+    ∙ (rw (turn_at e s, turn_end e s, q) (sym (turns_next es s.r.end l s.r.at s h)))
+
+-- at the end nothing is left
+over : (es : List Event) (s : Playing) → s.r.end ≤ length es → s.r.end ≤ s.r.at → onward es s ≡ s
+over es s l h = turns_end es s.r.end l s.r.at s h
+
+pub loop-r-init : goal.loop-r-init
+loop-r-init c =
+    let a = c.args in
+    (
+      ap (λ p. p.r.end) c.begin-r.ensures,
+      begun a.events.now a.image.now a.answers.now a.w _ c.begin-r.ensures,
+      c.begin-r.auto.image,
+      c.begin-r.auto.answers,
+    )
+
+pub bounds-events-r : goal.bounds-events-r
+bounds-events-r c =
+    let a = c.args in
+    omega (arith, c.loop-r.invariant.0, begin_end (length a.events.now) a.image.now a.answers.now a.w)
+
+pub offset_bounds-events-r : goal.offset_bounds-events-r
+offset_bounds-events-r c =
+    let a = c.args in
+    let h : c.loop-r.r.at < length a.events.now = omega (arith, c.loop-r.invariant.0, begin_end (length a.events.now) a.image.now a.answers.now a.w) in
+    search rules
+
+pub turn-r-requires : goal.turn-r-requires
+turn-r-requires c =
+    let a = c.args in
+    let i = c.loop-r.invariant in
+    let room = begin_room (length a.events.now) a.image.now a.answers.now a.w in
+    (
+      i.2 ∙ begin_length (length a.events.now) a.image.now a.answers.now a.w c.loop-r.r.at (rw i.0 at c.loop-r-test.true),
+      c.loop-r-test.true,
+      omega arith,
+    )
+
+pub loop-r-smaller : goal.loop-r-smaller
+loop-r-smaller c =
+    let f = c.turn-r.ensures in ?
+
+pub loop-r-preserved : goal.loop-r-preserved
+loop-r-preserved c =
+    let f = c.turn-r.ensures in ?
+
+pub returns : goal.returns
+returns c =
+    let a = c.args in
+    let i = c.loop-r.invariant in
+    let s : Playing = record { image = c.loop-r.image; answers = c.loop-r.answers; r = c.loop-r.r } in
+    let most = begin_end (length a.events.now) a.image.now a.answers.now a.w in
+    played_leaves a.events.now a.image.now a.answers.now a.w s (sym (over a.events.now s (omega arith) c.loop-r-test.false) ∙ i.1)
