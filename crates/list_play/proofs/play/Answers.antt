@@ -1,9 +1,10 @@
 use borrow.Author.Rules.{rules}
 use native.Mathlib.Omega.{arith}
-use mathlib.Core.Path.{◌≡◌, sym, ap, ◌∙◌}
+use mathlib.Core.Path.{◌≡◌, sym, ap, ap₂, ◌∙◌}
 use mathlib.Core.List.{List}
 use Prim.Native.Nat.{ℕ, ◌+◌, ◌<◌, ◌≤◌}
 use lib.ListN.{length, take, drop, get_or}
+use Rattle.std.proofs.lemmas.List.{get_or_default}
 use Rattle.model.specs.Map.{Image}
 use Rattle.model.specs.declared.event.Event.{Event}
 use Rattle.model.specs.declared.lane.Working.{Working}
@@ -24,8 +25,9 @@ begun es x answers w s e =
 -- a turn leaves it the same
 turned : (es : List Event) (e : Event) (s t : Playing) → t ≡ turn_of e s → e ≡ get_or es s.r.at none → s.r.at < s.r.end → s.r.end ≤ length es → onward es t ≡ onward es s
 turned es e s t p q h l =
-    ap (onward es) p
-    ∙ (rw (turn_at e s, turn_end e s, q) (sym (turns_next es s.r.end l s.r.at s h)))
+    ap (onward es) (p ∙ ap (λ d. turn_of d s) q)
+    ∙ ap₂ (λ i n. turns_of (drop i (take n es)) (turn_of (get_or es s.r.at none) s)) (turn_at (get_or es s.r.at none) s) (turn_end (get_or es s.r.at none) s)
+    ∙ sym (turns_next es s.r.end l s.r.at s h)
 
 -- at the end nothing is left
 over : (es : List Event) (s : Playing) → s.r.end ≤ length es → s.r.end ≤ s.r.at → onward es s ≡ s
@@ -65,11 +67,25 @@ turn-r-requires c =
 
 pub loop-r-smaller : goal.loop-r-smaller
 loop-r-smaller c =
-    let f = c.turn-r.ensures in ?
+    let s : Playing = record { image = c.loop-r.image; answers = c.loop-r.answers; r = c.loop-r.r } in
+    let at : c.turn-r.result.at ≡ c.loop-r.r.at + 1 = ap (λ p. p.r.at) c.turn-r.ensures ∙ turn_at _ s in
+    let end : c.turn-r.result.end ≡ c.loop-r.r.end = ap (λ p. p.r.end) c.turn-r.ensures ∙ turn_end _ s in
+    omega arith
 
 pub loop-r-preserved : goal.loop-r-preserved
 loop-r-preserved c =
-    let f = c.turn-r.ensures in ?
+    let a = c.args in
+    let i = c.loop-r.invariant in
+    let s : Playing = record { image = c.loop-r.image; answers = c.loop-r.answers; r = c.loop-r.r } in
+    let most = begin_end (length a.events.now) a.image.now a.answers.now a.w in
+    let within : c.loop-r.r.end ≤ length a.events.now = omega arith in
+    let here : c.loop-r.r.at < length a.events.now = omega arith in
+    (
+      ap (λ p. p.r.end) c.turn-r.ensures ∙ turn_end _ s ∙ i.0,
+      turned a.events.now _ s _ c.turn-r.ensures (get_or_default a.events.now c.loop-r.r.at _ none here) c.loop-r-test.true within ∙ i.1,
+      c.turn-r.auto.image ∙ i.2,
+      c.turn-r.auto.answers ∙ i.3,
+    )
 
 pub returns : goal.returns
 returns c =

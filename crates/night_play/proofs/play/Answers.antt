@@ -37,9 +37,9 @@ loop-k-preserved c = let a = c.args in
     let wide = c.requires.5 in
     let room = turn_room s a.file.now _ _ _ _ _ _ _ _ _ _ _ i.5 _ named part t.ensures (omega arith) in (
       search rules,
-      t.auto.0 ∙ i.1,
-      t.auto.1.1.0 ∙ i.2,
-      t.auto.1.1.1.1.1.1.0 ∙ i.3,
+      t.auto.image ∙ i.1,
+      t.auto.buffer ∙ i.2,
+      t.auto.out ∙ i.3,
       omega arith,
       turn_state s a.file.now _ _ _ _ _ _ _ _ _ _ _ i.5 _ named part t.ensures,
       turn_text s a.file.now _ _ _ _ _ _ _ _ _ _ _ i.5 _ named part t.ensures _ (omega arith) i.6,
