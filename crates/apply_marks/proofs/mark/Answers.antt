@@ -16,8 +16,8 @@ pub loop-lane-preserved : goal.loop-lane-preserved
 loop-lane-preserved c = let i = c.loop-lane.invariant in
     let bit = c.is_in.ensures in
     elim c.if-is_in.branch [
-    | then-is_in t ↦ (search rules, rw (t.working-is, t.with_stage-after.ensures) (each_turn _ _ _ _ _ i.1 (sym bit ∙ t.if-is_in.true)), rw t.working-is i.2)
-    | else-is_in u ↦ (search rules, rw u.working-is (each_pass _ _ _ _ _ i.1 (sym bit ∙ u.if-is_in.false)), rw u.working-is i.2)
+      | then-is_in t ↦ (search rules, rw (t.working-is, t.with_stage-after.ensures) (each_turn _ _ _ _ _ i.1 (sym bit ∙ t.if-is_in.true)), rw t.working-is i.2)
+      | else-is_in u ↦ (search rules, rw u.working-is (each_pass _ _ _ _ _ i.1 (sym bit ∙ u.if-is_in.false)), rw u.working-is i.2)
     ]
 
 pub returns : goal.returns

@@ -12,6 +12,6 @@ pub loop-lane-preserved : goal.loop-lane-preserved
 loop-lane-preserved c = let i = c.loop-lane.invariant in
     let bit = c.is_in.ensures in
     elim c.if-is_in.branch [
-    | then-is_in w ↦ (search rules, ap length w.image-is ∙ (w.put_lane.auto.image ∙ i.1), w.image-is ∙ (w.put_lane.ensures ∙ each_turn _ _ _ _ _ i.2 (sym bit ∙ w.if-is_in.true)))
-    | else-is_in w ↦ (search rules, ap length w.image-is ∙ i.1, w.image-is ∙ each_pass _ _ _ _ _ i.2 (sym bit ∙ w.if-is_in.false))
+      | then-is_in w ↦ (search rules, ap length w.image-is ∙ (w.put_lane.auto.image ∙ i.1), w.image-is ∙ (w.put_lane.ensures ∙ each_turn _ _ _ _ _ i.2 (sym bit ∙ w.if-is_in.true)))
+      | else-is_in w ↦ (search rules, ap length w.image-is ∙ i.1, w.image-is ∙ each_pass _ _ _ _ _ i.2 (sym bit ∙ w.if-is_in.false))
     ]

@@ -35,8 +35,7 @@ over es s l h = turns_end es s.r.end l s.r.at s h
 
 pub loop-r-init : goal.loop-r-init
 loop-r-init c =
-    let a = c.args in
-    (
+    let a = c.args in (
       ap (λ p. p.r.end) c.begin-r.ensures,
       begun a.events.now a.image.now a.answers.now a.w _ c.begin-r.ensures,
       c.begin-r.auto.image,
@@ -58,8 +57,7 @@ pub turn-r-requires : goal.turn-r-requires
 turn-r-requires c =
     let a = c.args in
     let i = c.loop-r.invariant in
-    let room = begin_room (length a.events.now) a.image.now a.answers.now a.w in
-    (
+    let room = begin_room (length a.events.now) a.image.now a.answers.now a.w in (
       i.2 ∙ begin_length (length a.events.now) a.image.now a.answers.now a.w c.loop-r.r.at (rw i.0 at c.loop-r-test.true),
       c.loop-r-test.true,
       omega arith,
@@ -79,8 +77,7 @@ loop-r-preserved c =
     let s : Playing = record { image = c.loop-r.image; answers = c.loop-r.answers; r = c.loop-r.r } in
     let most = begin_end (length a.events.now) a.image.now a.answers.now a.w in
     let within : c.loop-r.r.end ≤ length a.events.now = omega arith in
-    let here : c.loop-r.r.at < length a.events.now = omega arith in
-    (
+    let here : c.loop-r.r.at < length a.events.now = omega arith in (
       ap (λ p. p.r.end) c.turn-r.ensures ∙ turn_end _ s ∙ i.0,
       turned a.events.now _ s _ c.turn-r.ensures (get_or_default a.events.now c.loop-r.r.at _ none here) c.loop-r-test.true within ∙ i.1,
       c.turn-r.auto.image ∙ i.2,

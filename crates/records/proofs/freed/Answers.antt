@@ -18,8 +18,8 @@ loop-lane-preserved c =
     let i = c.loop-lane.invariant in
     let bit = c.is_in.ensures in
     elim c.if-is_in.branch [
-    | then-is_in w ↦ (search rules, rw w.next-is i.1, rw (w.next-is, w.with_stage-idle.ensures) (each_turn _ _ _ _ _ i.2 (sym bit ∙ w.if-is_in.true)))
-    | else-is_in w ↦ (search rules, rw w.next-is i.1, rw w.next-is (each_pass _ _ _ _ _ i.2 (sym bit ∙ w.if-is_in.false)))
+      | then-is_in w ↦ (search rules, rw w.next-is i.1, rw (w.next-is, w.with_stage-idle.ensures) (each_turn _ _ _ _ _ i.2 (sym bit ∙ w.if-is_in.true)))
+      | else-is_in w ↦ (search rules, rw w.next-is i.1, rw w.next-is (each_pass _ _ _ _ _ i.2 (sym bit ∙ w.if-is_in.false)))
     ]
 
 pub returns : goal.returns
