@@ -30,21 +30,21 @@ stopped e n r bytes p f g = p ∙ sym (run_stops e r bytes n f) ∙ g
 pub returns-then-bytes-taken : goal.returns-then-bytes-taken
 returns-then-bytes-taken c = let l = c.loop-k in
     let bytes = c.args.bytes.now in
-    let r = stood l.image l.out l.true l.reached l.k in
+    let r = stood l.image l.out l.taken l.reached l.k in
     stopped _ _ r bytes (ap (λ (p : Played). running p l.image l.out) c.standing_at.ensures) (lacks _ r bytes l.invariant.4 l.invariant.5 c.if-bytes-taken.true) l.invariant.6
 
 pub returns-then-not-is_record : goal.returns-then-not-is_record
 returns-then-not-is_record c = let l = c.loop-k in
     let bytes = c.args.bytes.now in
-    let r = stood l.image l.out l.true l.reached l.k in
+    let r = stood l.image l.out l.taken l.reached l.k in
     let wrong = sym c.is_record.ensures ∙ not-true _ (ap not c.if-not-is_record.true) in
-    stopped _ _ r bytes (ap (λ (p : Played). running p l.image l.out) c.standing_at-then-not-is_record.ensures) (malformed _ r bytes (rw (part_from l.true bytes) at wrong)) l.invariant.6
+    stopped _ _ r bytes (ap (λ (p : Played). running p l.image l.out) c.standing_at-then-not-is_record.ensures) (malformed _ r bytes (rw (part_from l.taken bytes) at wrong)) l.invariant.6
 
 pub turn-reached-requires : goal.turn-reached-requires
 turn-reached-requires c = let bytes = c.args.bytes.now in
     let l = c.loop-k in
-    let h = enough (stood l.image l.out l.true l.reached l.k) bytes l.invariant.4 l.invariant.5 c.if-bytes-taken.false in
-    (l.invariant.1, l.invariant.2, rw (part_from l.true bytes) (omega (arith, record_length_lem l.true bytes h.0)), omega (arith, length_any_index l.k))
+    let h = enough (stood l.image l.out l.taken l.reached l.k) bytes l.invariant.4 l.invariant.5 c.if-bytes-taken.false in
+    (l.invariant.1, l.invariant.2, rw (part_from l.taken bytes) (omega (arith, record_length_lem l.taken bytes h.0)), omega (arith, length_any_index l.k))
 
 pub loop-k-preserved : goal.loop-k-preserved
 loop-k-preserved c = let a = c.args in
@@ -53,19 +53,19 @@ loop-k-preserved c = let a = c.args in
     let l = c.loop-k in
     let i = l.invariant in
     let t = c.turn-reached in
-    let r = stood l.image l.out l.true l.reached l.k in
+    let r = stood l.image l.out l.taken l.reached l.k in
     let h = enough r bytes i.4 i.5 c.if-bytes-taken.false in
     let good = sym c.is_record.ensures ∙ not-false _ (ap not c.if-not-is_record.false) in
     let more = c.loop-k-test.true in
     let n : a.records - l.k ≡ suc (a.records - (l.k + 1)) = omega (arith, more) in (
       omega (arith, more),
-      t.auto.0 ∙ i.1,
-      t.auto.1.1.0 ∙ i.2,
-      t.auto.1.1.1.1.1.1.0 ∙ i.3,
+      t.auto.image ∙ i.1,
+      t.auto.buffer ∙ i.2,
+      t.auto.out ∙ i.3,
       h.0,
-      puts_within (omega arith) t.auto.1.1.1.1.1.1.0 t.ensures.text,
-      ap (λ (r : Running). runs e (a.records - (l.k + 1)) r bytes) (sym (after_turn e l.true l.k l.reached t.result l.image _ _ _ l.out _ _ (rw (part_from l.true bytes) at t.ensures)))
-          ∙ sym (run_plays e r bytes _ (plays e r bytes h.0 h.1 (rw (part_from l.true bytes) at good)))
+      puts_within (omega arith) t.auto.out t.ensures.text,
+      ap (λ (r : Running). runs e (a.records - (l.k + 1)) r bytes) (sym (after_turn e l.taken l.k l.reached t.result l.image _ _ _ l.out _ _ (rw (part_from l.taken bytes) at t.ensures)))
+          ∙ sym (run_plays e r bytes _ (plays e r bytes h.0 h.1 (rw (part_from l.taken bytes) at good)))
           ∙ (rw n at i.6),
     )
 
@@ -75,5 +75,5 @@ returns c = let l = c.loop-k in
     let a = c.args in
     let e : a.records ≡ l.k = omega arith in
     let z : a.records - l.k ≡ 0 = omega arith in
-    let here = c.standing_at-2.ensures ∙ (λ i. record { taken = l.true; next = e i; at = l.reached.at; working = l.reached.working }) in
+    let here = c.standing_at-2.ensures ∙ (λ i. record { taken = l.taken; next = e i; at = l.reached.at; working = l.reached.working }) in
     ap (λ (p : Played). running p l.image l.out) here ∙ (rw z at l.invariant.6)
