@@ -61,7 +61,7 @@ unfolding takes
 takes_within room c [] = omega arith
 takes_within room c (b ∷ bytes) =
     let m : ℕ = takes (room - length (took c b).text) (took c b).carried bytes in
-    let l : m ≤ length bytes = takes_within _ _ bytes in
+    let l : m ≤ length bytes = takes_within (room - length (took c b).text) (took c b).carried bytes in
     split (ltb room longest_line) (λ full. rw (pick_true 0 (suc m) full) (omega arith)) (λ some. rw (pick-false 0 (suc m) some) (omega arith))
 
 -- where room is left for a longest line, every byte was taken
