@@ -5,7 +5,7 @@
 
 What the host does (class Host) knows a reader and a writer over flat offsets and nothing else, as the code of a host
 stack does. Behind them is a live module, which goes on by itself after every access. What happened can be kept as a
-night file. PROGRAM is a streaming form other than target/bin/stream.
+night file. PROGRAM is a streaming form other than the program stream.
 """
 
 import os

@@ -10,7 +10,7 @@ its lines come first and standard input goes on from there.
                   it has more than 5,000 records, and for nightkit
   --words         says below an answer what a refusal or what was read means, as on a terminal
   --program WORDS
-                  a streaming form other than target/bin/stream, such as 'target/second/second-night --stream'
+                  a streaming form other than the program stream, such as 'target/second/second-night --stream'
   --patience S    seconds to wait for an answer (default 30)
   --help          this text
 

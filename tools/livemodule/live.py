@@ -64,7 +64,7 @@ class LiveModule:
     image     as many bytes as an image of the edition has (see image_of)
     edition   of the night that the dialogue makes; it says which kinds of call there are
     night     path of a file that keeps what is done, as a night
-    command   the words that run a streaming form; by default target/bin/stream
+    command   the words that run a streaming form; by default the program stream
     patience  seconds to wait for an answer
 
     A call that is refused raises Refused, one that cannot be asked for a Problem; the module goes on after both. If the

@@ -27,7 +27,7 @@ SHOWN = 200
 
 @functools.lru_cache(maxsize=None)
 def stream_command():
-    """The words that run target/bin/stream on this machine, by tools/run."""
+    """The words that run the program stream, by tools/run."""
     done = subprocess.run([os.path.join(TOOLS, "run"), "--words", "stream"], capture_output=True, text=True)
     if done.returncode:
         raise Broken("the program stream cannot be run: %s" % (done.stderr.strip() or "tools/run fails"))

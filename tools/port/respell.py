@@ -1,7 +1,7 @@
 #!/usr/bin/env python3
 """Brings the names of this repository's own definitions and lemmas to the spelling of today's Rattle, after port.py.
 
-usage: python3 tools/port/respell.py      at the top of the repository, once, on what port.py left
+usage: python3 tools/port/respell.py [FILE]   at the top of the repository, once, on what port.py left; FILE gets the old and new names
 
 Words are in snake case, types and modules in camel case. In a lemma's name a dash joins the names of two definitions, and a plain word is added with `_`.
 A lemma that would fall together with a definition ends in `_lem`. Functions of src/, exported names, strings, inputs and outputs are left alone.
@@ -155,9 +155,10 @@ def main():
                 lines[n] = l[:5] + turned(l[5:], new, set(), "--" if at.endswith("antt") else "//", by_hand=at.endswith(BY_HAND))
         text = "\n".join(lines)
         write(f, text)
-    with open("/tmp/respell.txt", "w") as t:
-        for w in sorted(new):
-            t.write(f"{w} {new[w]}\n")
+    for to in sys.argv[1:]:
+        with open(to, "w", encoding="utf-8") as t:
+            for w in sorted(new):
+                t.write(f"{w} {new[w]}\n")
     print(f"{len(new)} names respelled")
 
 
