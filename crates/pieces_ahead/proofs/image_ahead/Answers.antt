@@ -9,7 +9,7 @@ copy_bytes-requires c = let s = c in
     (omega (arith, n, c.image_bytes-length.ensures, edition-fits s.args.f.carried.edition, s.requires.0), omega (arith, n, s.requires.2))
 
 pub returns : goal.returns
-returns c = let s = c in
+returns c = λ out room. let s = c in
     let n = c.copied_bytes-n.ensures in
     image_goes s.args.f s.args.image.now _ s.args.piece.now out s.args.come s.args.records _ s.requires.1 s.requires.3 s.requires.0
     (omega (arith, n, c.image_bytes-length.ensures)) (omega (arith, n, s.requires.2)) c.copy_bytes.ensures room
