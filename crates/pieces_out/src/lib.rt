@@ -4,12 +4,13 @@
 ghost use Rattle.std.specs.Prelude.{◌≡◌, ◌≤◌, ◌<◌, length, IfOk};
 ghost use Rattle.model.specs.Map.{image_length};
 ghost use Rattle.night_text.specs.Buffer.{longest_line};
+ghost use Rattle.pieces.specs.Feeding.{feed_left};
 
 use pieces::Fed;
 use pieces_carried::Carried;
 use std::io;
 
-// One feed, and its lines. It takes a byte at least.
+// One feed, and its lines. It takes a byte at least. Where the write fails the feed itself was done.
 fn print_feed(
     rt: &impl Print,
     image: &mut [u8],
@@ -18,7 +19,9 @@ fn print_feed(
     out: &mut [u8],
 ) -> io::Result<Fed>
     requires { (length image.old ≡ image_length) × (longest_line ≤ length out.old) × (0 < length piece.now) }
-    ensures { IfOk result (λ fed. (0 < fed.taken) × (fed.taken ≤ length piece.now)) }
+    ensures fed { IfOk result (λ fed. (0 < fed.taken) × (fed.taken ≤ length piece.now)) }
+    ensures image { image.new ≡ (feed_left carried image.old piece.now out.old).image }
+    ensures out { out.new ≡ (feed_left carried image.old piece.now out.old).out }
 {
     let fed = pieces::feed(image, carried, piece, out);
     rt.write_all(&out[..fed.printed])?;

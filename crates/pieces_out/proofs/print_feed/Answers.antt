@@ -9,8 +9,8 @@ slice_bounds-write_all-end g c = let f = c.feed-fed in omega (arith, f.auto.out,
 pub slice_bounds-write_all-end-2 : goal.slice_bounds-write_all-end-2
 slice_bounds-write_all-end-2 g c = let f = c.feed-fed in sym (length-take-le _ _ (omega (arith, f.auto.out, fed-fits _ _ _ _ f.ensures)))
 
-pub returns : goal.returns
-returns g c =
+pub returns-clause-fed : goal.returns-clause-fed
+returns-clause-fed g c =
     let f = c.feed-fed.ensures in
     let p = c.requires in
     (fed-moves _ _ _ _ f p.0 p.1 p.2, fed-within _ _ _ _ f)
