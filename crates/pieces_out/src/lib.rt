@@ -4,7 +4,7 @@
 ghost use Rattle.std.specs.Prelude.{◌≡◌, ◌≤◌, ◌<◌, length, IfOk};
 ghost use Rattle.model.specs.Map.{image_length};
 ghost use Rattle.night_text.specs.Buffer.{longest_line};
-ghost use Rattle.pieces.specs.Feeding.{feed_left};
+ghost use Rattle.pieces.specs.Feeding.{feed_left, end_left};
 
 use pieces::Fed;
 use pieces_carried::Carried;
@@ -48,8 +48,10 @@ pub fn print_piece(
     Ok(carried)
 }
 
-// What the end prints.
-pub fn print_end(rt: &impl Print, carried: Carried, out: &mut [u8]) -> io::Result<()> {
+// What the end prints. The output holds it also where the write fails.
+pub fn print_end(rt: &impl Print, carried: Carried, out: &mut [u8]) -> io::Result<()>
+    ensures { out.new ≡ (end_left carried out.old).out }
+{
     let fed = pieces::finish(carried, out);
     rt.write_all(&out[..fed.printed])
 }
