@@ -4,10 +4,10 @@
 ghost use Rattle.std.specs.Prelude.{◌≡◌, length};
 ghost use Rattle.contracts.specs.Forms.{IsState};
 ghost use Rattle.model.specs.Access.{resets, ended_state};
-ghost use Rattle.model.specs.Map.{image_length};
 ghost use Rattle.model.specs.Start.{reset_state};
 ghost use Rattle.model.specs.State.{state_with};
 
+use model::image::Image;
 use model::lane::Working;
 
 // Whether a write of these bytes from an address on resets the module: it writes lower 26 with SoftwareReset at 1.
@@ -26,8 +26,7 @@ fn resets(address: u8, bytes: &[u8]) -> bool
 }
 
 // The module starts anew: the image, and all lanes idle with nothing on. The low-power line is as it was.
-fn reset(image: &mut [u8], w: Working) -> Working
-    requires { length image.old ≡ image_length }
+fn reset(image: &mut Image, w: Working) -> Working
     ensures { IsState (reset_state (state_with image.old w)) image.new result }
 {
     start_image::reset(image);
@@ -35,8 +34,7 @@ fn reset(image: &mut [u8], w: Working) -> Working
 }
 
 // What a write of these bytes from an address on does after its last byte.
-pub fn end_write(image: &mut [u8], w: Working, address: u8, bytes: &[u8]) -> Working
-    requires { length image.old ≡ image_length }
+pub fn end_write(image: &mut Image, w: Working, address: u8, bytes: &[u8]) -> Working
     ensures { IsState (ended_state address bytes.now (length bytes.now) (state_with image.old w)) image.new result }
 {
     if resets(address, bytes) {

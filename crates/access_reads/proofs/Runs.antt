@@ -1,14 +1,19 @@
 -- Bytes cleared from a place on: two ways that clear the same bytes leave the same image. Assumes nothing.
-use mathlib.Core.Path.{◌≡◌, refl, sym, ◌∙◌}
+use mathlib.Core.Path.{◌≡◌, refl, sym, ap, ◌∙◌}
 use mathlib.Core.Bool.{Bool, true, false}
 use mathlib.Core.Logic.{inl, inr}
-use Prim.Native.Nat.{ℕ, ◌+◌, ◌-◌, ◌≤◌, ◌<◌}
+use mathlib.Core.List.{List, [], ◌++◌}
+use Prim.Native.Nat.{ℕ, zero, suc, ◌+◌, ◌-◌, ◌≤◌, ◌<◌, max, min}
+use native.Mathlib.Numerals.{add-one}
 use native.Mathlib.Omega.{arith}
-use lib.Dec.{leb, ltb, eqb}
-use lib.ListN.{length, get_or, set, length-set}
-use lib.Seq.{get_or-set_same, get_or-set_other, ext_get_or}
-use borrow.Author.Tests.{leb-true, le-leb, ltb-true, ltb-false, eqb-true, eq-eqb}
-use Rattle.bits.specs.Choice.{pick, both, either}
+use lib.Dec.{eqb}
+use borrow.Rule.Slice.PartMut.{put_mid, post_of}
+use Rattle.std.proofs.lemmas.List.{set-append_left, set-append_right}
+use lib.ListN.{length, take, get_or, set, replicate, length-set}
+use lib.Seq.{paste, length-take-le, get_or-set_same, get_or-set_other, ext_get_or}
+use Rattle.std.proofs.lemmas.List.Edits.{paste_none, fill_from_more}
+use borrow.Author.Tests.{leb-true, le-leb, eqb-true, eq-eqb}
+use Rattle.bits.specs.Choice.{only_if, both}
 use Rattle.bits.specs.Loop.{each, any_below}
 use Rattle.bits.proofs.Loops.{each_hit, each_skip, any_none, any_find}
 use Rattle.bits.proofs.Tests.{split, clash, both_l, both_r, both_i, either_cases, either_i_l, either_i_r}
@@ -33,6 +38,23 @@ module _ (c : ℕ → Bool) (i n : ℕ) (x : Image) where
   kept_at : (j : ℕ) → ((k : ℕ) → k < n → c k ≡ true → i + k ≡ j → ⊥) → get_or (zeroed c i n x) j 0 ≡ get_or x j 0
   unfolding zeroed
   kept_at j h = each_skip c step (λ y. get_or y j 0) n x (λ k y b t. get_or-set_other y (i + k) j 0 0 (λ p. h k b t (sym p)))
+
+-- every byte of a run, cleared at once
+pub zeros_pasted : (i n : ℕ) (x : Image) → i + n ≤ length x → zeroed (λ k. true) i n x ≡ paste x i (replicate n 0) n
+unfolding zeroed each only_if
+zeros_pasted i zero x h = paste_none x i []
+zeros_pasted i (suc n) x h =
+    ap (λ y. set y (i + n) 0) (zeros_pasted i n x (omega arith))
+    ∙ fill_from_more x i n 0 (omega arith)
+    ∙ ap (λ m. paste x i (replicate m 0) m) (add-one n)
+
+-- a byte written in a part that is lent is written in the whole
+pub part_set : (i n k v : ℕ) (x ys : List ℕ) → i ≤ length x → k < length ys → put_mid i n x (set ys k v) ≡ set (put_mid i n x ys) (i + k) v
+part_set i n k v x ys h b =
+    let here : i + k - i ≡ k = omega arith in
+    sym (set-append_right (take i x) (ys ++ post_of i n x) i (i + k) v (length-take-le i x h) (omega arith)
+    ∙ ap (λ m. take i x ++ set (ys ++ post_of i n x) m v) here
+    ∙ ap (λ t. take i x ++ t) (set-append_left ys (post_of i n x) k v b))
 
 -- the byte k of one way is a byte of the other
 pub record Met (d : ℕ → Bool) (i n j : ℕ) : Type 0 where
@@ -81,43 +103,19 @@ of-flags : (j : ℕ) → flag_bytes ≤ j → j ≤ last_flags_lem → clearing 
 unfolding clearing in_ranges
 of-flags j h l = either_i_r _ _ (either_i_l _ _ (both_i (le-leb _ _ h) (le-leb _ _ l)))
 
--- the later and the earlier of two places
-from-both : (a b j : ℕ) → a ≤ j → b ≤ j → pick (ltb a b) b a ≤ j
-unfolding pick
-from-both a b j h l = split (ltb a b) (λ e. rw (e, pick) l) (λ e. rw (e, pick) h)
-
-to_both : (a b j : ℕ) → j < a → j < b → j < pick (ltb a b) a b
-unfolding pick
-to_both a b j h l = split (ltb a b) (λ e. rw (e, pick) h) (λ e. rw (e, pick) l)
-
-later_past : (a b : ℕ) → (a ≤ pick (ltb a b) b a) × (b ≤ pick (ltb a b) b a)
-unfolding pick
-later_past a b = split (ltb a b)
-    (λ e. let l : a < b = ltb-true a b e in rw (e, pick) (omega arith, omega arith))
-    (λ e. let l : b ≤ a = ltb-false a b e in rw (e, pick) (omega arith, omega arith))
-
-earlier_before : (a b : ℕ) → (pick (ltb a b) a b ≤ a) × (pick (ltb a b) a b ≤ b)
-unfolding pick
-earlier_before a b = split (ltb a b)
-    (λ e. let l : a < b = ltb-true a b e in rw (e, pick) (omega arith, omega arith))
-    (λ e. let l : b ≤ a = ltb-false a b e in rw (e, pick) (omega arith, omega arith))
-
-module _ (x : Image) (i n from end : ℕ) (len : length x ≡ image_length) (fits : i + n ≤ image_length) (past : 9 < i) (f : from ≡ pick (ltb i flag_bytes) flag_bytes i)
-    (t : end ≡ pick (ltb (i + n) (flag_bytes + flag_byte_count)) (i + n) (flag_bytes + flag_byte_count)) where
+module _ (x : Image) (i n from end : ℕ) (len : length x ≡ image_length) (fits : i + n ≤ image_length) (past : 9 < i) (f : from ≡ max i flag_bytes)
+    (t : end ≡ min (i + n) (flag_bytes + flag_byte_count)) where
   starts : (i ≤ from) × (flag_bytes ≤ from)
-  starts = rw f (later_past i flag_bytes)
+  starts = omega arith
 
   ends : (end ≤ i + n) × (end ≤ flag_bytes + flag_byte_count)
-  ends = rw t (earlier_before (i + n) (flag_bytes + flag_byte_count))
+  ends = omega arith
 
   -- a byte that a read clears lies in the run
   in_run : (k : ℕ) → k < n → clearing (i + k) ≡ true → (from ≤ i + k) × (i + k < end)
   in_run k b e =
       let u = flags_of (i + k) (omega arith) e in
-      (rw f (from-both i flag_bytes (i + k) (omega arith) u.0), rw t (to_both (i + n) (flag_bytes + flag_byte_count) (i + k) (omega arith) (omega (arith, u.1))))
-
-  pub run_fits : from < end → from + (end - from) ≤ image_length
-  run_fits h = omega (arith, ends.0)
+      omega (arith, u)
 
   pub run_cleared : from < end → zeroed (λ k. true) from (end - from) x ≡ cleared_image x i n
   unfolding zeroed cleared_image

@@ -1,73 +1,52 @@
 // A host read: all its bytes are taken through a window, and then those that a read clears are cleared.
 #![tactic(auto)]
 
-ghost use Rattle.std.specs.Prelude.{◌≡◌, true, ◌+◌, ◌≤◌, ◌<◌, ltb, length};
-ghost use Rattle.bits.specs.Choice.{pick};
+ghost use Rattle.std.specs.Prelude.{◌≡◌, true, ◌+◌, ◌-◌, ◌≤◌, ◌<◌, length};
 ghost use Rattle.model.specs.Map.{image_length};
 ghost use Rattle.model.specs.Pages.{index_of};
 ghost use Rattle.model.specs.Access.{cleared_image, half_end};
 ghost use Rattle.access_reads.specs.Left.{ReadOut, zeroed};
 
+use model::image::Image;
+
 // Past the last flag byte of page 11h.
 const PAST_FLAGS: usize = map::FLAG_BYTES + (map::FLAG_BYTE_COUNT as usize);
 
-// The later of two places.
-fn later(a: usize, b: usize) -> usize
-    ensures { result ≡ pick (ltb a b) b a }
+// The bytes from one index up to another, cleared.
+fn clear_run(image: &mut Image, from: usize, end: usize)
+    requires { (from ≤ end) × (end ≤ image_length) }
+    ensures { image.new ≡ zeroed (λ k. true) from (end - from) image.old }
 {
-    if a < b {
-        return b;
-    }
-    a
-}
-
-// The earlier of two places.
-fn earlier(a: usize, b: usize) -> usize
-    ensures { result ≡ pick (ltb a b) a b }
-{
-    if a < b {
-        return a;
-    }
-    b
-}
-
-// Bytes from an index on, cleared.
-fn clear_run(image: &mut [u8], from: usize, count: usize)
-    requires { (length image.old ≡ image_length) × (from + count ≤ image_length) }
-    ensures { image.new ≡ zeroed (λ k. true) from count image.old }
-{
-    for k in 0..count {
-        image[from + k] = 0;
-    }
+    image[from..end].fill(0);
 }
 
 // Those of n bytes from an index past the module's own flags on that a read clears, cleared: they lie side by side.
-fn clear_flags(image: &mut [u8], i: usize, n: usize)
-    requires { (length image.old ≡ image_length) × (i + n ≤ image_length) × (9 < i) }
+fn clear_flags(image: &mut Image, i: usize, n: usize)
+    requires { (i + n ≤ image_length) × (9 < i) }
     ensures { image.new ≡ cleared_image image.old i n }
 {
-    let from = later(i, map::FLAG_BYTES);
-    let end = earlier(i + n, PAST_FLAGS);
+    let from = i.max(map::FLAG_BYTES);
+    let end = (i + n).min(PAST_FLAGS);
     if from < end {
-        clear_run(image, from, end - from);
+        clear_run(image, from, end);
     }
 }
 
 // Those of n bytes from an index on that a read clears, cleared one by one.
-fn clear_each(image: &mut [u8], i: usize, n: usize)
-    requires { (length image.old ≡ image_length) × (i + n ≤ image_length) }
+fn clear_each(image: &mut Image, i: usize, n: usize)
+    requires { i + n ≤ image_length }
     ensures { image.new ≡ cleared_image image.old i n }
 {
-    for k in 0..n {
+    for (k, byte) in image[i..i + n].iter_mut().enumerate() {
         if map::clearing(i + k) {
-            image[i + k] = 0;
+            *byte = 0;
         }
     }
 }
 
 // Those of n bytes from an index on that a read clears, cleared.
-fn clear(image: &mut [u8], i: usize, n: usize)
-    requires { (length image.old ≡ image_length) × (i + n ≤ image_length) }
+fn clear(image: &mut Image, i: usize, n: usize)
+    requires { i + n ≤ image_length }
     ensures { image.new ≡ cleared_image image.old i n }
 {
     if i <= map::LAST_MODULE_FLAGS {
@@ -78,8 +57,8 @@ fn clear(image: &mut [u8], i: usize, n: usize)
 }
 
 // The n bytes at an offset of the half of memory that starts at an index: the window is gone before any is cleared, and a read that touches none of those clears nothing.
-fn read_half(image: &mut [u8], start: usize, offset: usize, n: usize, buffer: &mut [u8])
-    requires { (length image.old ≡ image_length) × (start + offset + n ≤ image_length) × (n ≤ length buffer.old) }
+fn read_half(image: &mut Image, start: usize, offset: usize, n: usize, buffer: &mut [u8])
+    requires { (start + offset + n ≤ image_length) × (n ≤ length buffer.old) }
     ensures { ReadOut image.old (start + offset) n buffer.old image.new buffer.new }
 {
     pages_window::take(image, start, offset, n, buffer);
@@ -90,8 +69,8 @@ fn read_half(image: &mut [u8], start: usize, offset: usize, n: usize, buffer: &m
 }
 
 // A read: count bytes from an address on, into the front of the buffer.
-pub fn read(image: &mut [u8], address: u8, count: u8, buffer: &mut [u8])
-    requires { (length image.old ≡ image_length) × (address + count ≤ half_end address) × (count ≤ length buffer.old) }
+pub fn read(image: &mut Image, address: u8, count: u8, buffer: &mut [u8])
+    requires { (address + count ≤ half_end address) × (count ≤ length buffer.old) }
     ensures { ReadOut image.old (index_of image.old address) count buffer.old image.new buffer.new }
 {
     let first = address as usize;

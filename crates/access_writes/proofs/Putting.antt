@@ -1,4 +1,5 @@
 -- A plain write leaves the lanes' records, and is put from its first place on. Assumes nothing.
+use Rattle.std.proofs.Common.{None, Some}
 use mathlib.Core.Path.{◌≡◌, refl, sym, ap, ◌∙◌}
 use mathlib.Core.Bool.{Bool, true, false, not, ◌||◌}
 use mathlib.Core.List.{List, [], ◌∷◌}
@@ -19,7 +20,6 @@ use Rattle.model.specs.State.{State, state_with}
 use Rattle.model.specs.Triggers.{triggered_state}
 use Rattle.model.specs.declared.lane.Apply.{Apply}
 use Rattle.model.specs.declared.lane.Working.{Working}
-use Rattle.model.specs.declared.lane.TriggerPlace.TheVariants.{NoTrigger, Applies}
 use Rattle.model.proofs.Starts.{start_past}
 use Rattle.model.proofs.Triggers.{at_row, no_trigger_below}
 use Rattle.map_triggers.specs.Meets.{meets_triggers}
@@ -32,19 +32,19 @@ unfolding without_reset pick
 whole-byte i v n = rw (ne_eqb i module_controls n, pick)
 
 -- a trigger's place
-pub stored-trigger : (i v : ℕ) (s : State) (a : Apply) → trigger_at i ≡ Applies a → stored_state i v s ≡ triggered_state a.trigger a.set s v
+pub stored-trigger : (i v : ℕ) (s : State) (a : Apply) → trigger_at i ≡ Some a → stored_state i v s ≡ triggered_state a.trigger a.set s v
 unfolding stored_state stored_by pick
 stored-trigger i v s a e = let t = at_row i a e in rw (ne_eqb i page_select (λ q. omega (arith, t.late)), e, pick, stored_by)
 
 -- a place that is no trigger's
-pub stored_other : (i v : ℕ) (x : Image) (w : Working) → trigger_at i ≡ NoTrigger → stored_state i v (state_with x w) ≡ state_with (byte_put i (without_reset i v) x) w
+pub stored_other : (i v : ℕ) (x : Image) (w : Working) → trigger_at i ≡ None → stored_state i v (state_with x w) ≡ state_with (byte_put i (without_reset i v) x) w
 unfolding stored_state stored_by byte_put pick
 stored_other i v x w n = split (eqb i page_select)
     (λ e. let h : i ≡ page_select = eqb-true _ _ e in rw (e, pick, whole-byte i v (λ t. omega arith)))
     (λ e. split (writable i) (λ f. rw (e, n, f, pick, stored_by)) (λ f. rw (e, n, f, pick, stored_by)))
 
 -- .. and lies past lower 26
-stored_plain : (i v : ℕ) (x : Image) (w : Working) → module_controls < i → trigger_at i ≡ NoTrigger → stored_state i v (state_with x w) ≡ state_with (byte_put i v x) w
+stored_plain : (i v : ℕ) (x : Image) (w : Working) → module_controls < i → trigger_at i ≡ None → stored_state i v (state_with x w) ≡ state_with (byte_put i v x) w
 stored_plain i v x w h n = stored_other i v x w n ∙ rw (whole-byte i v (λ e. omega arith))
 
 -- a byte put past lower memory leaves the selected page
@@ -66,7 +66,7 @@ lower_put a (v ∷ vs) x w l h =
 -- ---- n places from i on, none of them a trigger's
 
 abbrev Clear : ℕ → ℕ → Type 0
-Clear i n = (k : ℕ) → k < n → trigger_at (i + k) ≡ NoTrigger
+Clear i n = (k : ℕ) → k < n → trigger_at (i + k) ≡ None
 
 -- the code's tests
 pub plain_by : (i j n : ℕ) (m : Bool) → m ≡ meets_triggers i n → i ≡ j → not (m || leb i module_controls) ≡ is_plain j n
@@ -82,7 +82,7 @@ pub plain_past : (i n : ℕ) → is_plain i n ≡ true → module_controls < i
 unfolding is_plain
 plain_past i n e = leb-false i module_controls (either_r _ _ (not-true _ e))
 
-clear_here : (i n : ℕ) → Clear i (suc n) → trigger_at i ≡ NoTrigger
+clear_here : (i n : ℕ) → Clear i (suc n) → trigger_at i ≡ None
 clear_here i n c = ap trigger_at (sym (add-zero i)) ∙ c 0 (omega arith)
 
 clear_next : (i n : ℕ) → Clear i (suc n) → Clear (suc i) n

@@ -10,7 +10,8 @@ ghost use Rattle.contracts.specs.Forms.{IsState};
 ghost use Rattle.model.specs.State.{state_with};
 ghost use Rattle.access_writes.specs.Puts.{is_plain, byte_put, bytes_put};
 
-use model::lane::{TriggerPlace, Working};
+use model::image::Image;
+use model::lane::Working;
 
 // A byte of a page's 128, which are lent as a part of the image.
 fn store_on_page(page: &mut [u8], offset: usize, v: u8)
@@ -21,8 +22,8 @@ fn store_on_page(page: &mut [u8], offset: usize, v: u8)
 }
 
 // A byte of the 128 that start at an index of the image: stored if it is writable.
-fn store(image: &mut [u8], start: usize, offset: usize, v: u8)
-    requires { (length image.old ≡ image_length) × (start + 128 ≤ image_length) × (offset < 128) }
+fn store(image: &mut Image, start: usize, offset: usize, v: u8)
+    requires { (start + 128 ≤ image_length) × (offset < 128) }
     ensures { image.new ≡ pick (writable (start + offset)) (set image.old (start + offset) v) image.old }
 {
     if map::writable(start + offset) {
@@ -32,8 +33,8 @@ fn store(image: &mut [u8], start: usize, offset: usize, v: u8)
 }
 
 // A byte put at one of the 128 bytes from a start on, which is no trigger's and has no SoftwareReset.
-fn put_byte(image: &mut [u8], start: usize, offset: usize, v: u8)
-    requires { (length image.old ≡ image_length) × (start + 128 ≤ image_length) × (offset < 128) }
+fn put_byte(image: &mut Image, start: usize, offset: usize, v: u8)
+    requires { (start + 128 ≤ image_length) × (offset < 128) }
     ensures { image.new ≡ byte_put (start + offset) v image.old }
 {
     if start + offset == pages::PAGE_SELECT {
@@ -44,27 +45,23 @@ fn put_byte(image: &mut [u8], start: usize, offset: usize, v: u8)
 }
 
 // A byte written to one of the 128 bytes from a start on.
-fn write_at(image: &mut [u8], w: Working, start: usize, offset: usize, v: u8) -> Working
-    requires { (length image.old ≡ image_length) × (start + 128 ≤ image_length) × (offset < 128) }
+fn write_at(image: &mut Image, w: Working, start: usize, offset: usize, v: u8) -> Working
+    requires { (start + 128 ≤ image_length) × (offset < 128) }
     ensures { IsState (stored_state (start + offset) v (state_with image.old w)) image.new result }
 {
     let i = start + offset;
     match map_triggers::trigger_at(i) {
-        TriggerPlace::NoTrigger => {
+        None => {
             put_byte(image, start, offset, map::without_reset(i, v));
             w
         }
-        TriggerPlace::Applies(apply) => {
-            let kind = apply.trigger;
-            let set = apply.set;
-            apply_triggers::trigger(image, w, kind, set, v)
-        }
+        Some(apply) => apply_triggers::trigger(image, w, apply.trigger, apply.set, v),
     }
 }
 
 // A byte written to an address.
-fn write_byte(image: &mut [u8], w: Working, address: usize, v: u8) -> Working
-    requires { (length image.old ≡ image_length) × (address < 256) }
+fn write_byte(image: &mut Image, w: Working, address: usize, v: u8) -> Working
+    requires { address < 256 }
     ensures { IsState (byte_written_state address v (state_with image.old w)) image.new result }
 {
     let start = pages::half_start(image, address);
@@ -72,20 +69,20 @@ fn write_byte(image: &mut [u8], w: Working, address: usize, v: u8) -> Working
 }
 
 // A write, whatever its bytes touch: the lanes' records go along.
-pub fn write_each(image: &mut [u8], w: Working, address: u8, bytes: &[u8]) -> Working
-    requires { (length image.old ≡ image_length) × (address + length bytes.now ≤ half_end address) }
+pub fn write_each(image: &mut Image, w: Working, address: u8, bytes: &[u8]) -> Working
+    requires { address + length bytes.now ≤ half_end address }
     ensures { IsState (bytes_written_state address bytes.now (state_with image.old w)) image.new result }
 {
     let mut next = w;
-    for i in 0..bytes.len() {
-        next = write_byte(image, next, (address as usize) + i, bytes[i]);
+    for (i, byte) in bytes.iter().enumerate() {
+        next = write_byte(image, next, (address as usize) + i, *byte);
     }
     next
 }
 
 // Whether a write of n bytes from an address on meets neither a trigger nor lower 26: its bytes are then put and no more.
-fn is_plain(image: &[u8], address: u8, n: usize) -> bool
-    requires { (length image.now ≡ image_length) × (n < 2 ^ 32) }
+fn is_plain(image: &Image, address: u8, n: usize) -> bool
+    requires { n < 2 ^ 32 }
     ensures { result ≡ is_plain (index_of image.now address) n }
 {
     let first = address as usize;
@@ -94,8 +91,8 @@ fn is_plain(image: &[u8], address: u8, n: usize) -> bool
 }
 
 // The same of a write that ends in its own half of memory: in lower memory it meets no trigger.
-pub fn is_plain_write(image: &[u8], address: u8, n: usize) -> bool
-    requires { (length image.now ≡ image_length) × (address + n ≤ half_end address) }
+pub fn is_plain_write(image: &Image, address: u8, n: usize) -> bool
+    requires { address + n ≤ half_end address }
     ensures { result ≡ is_plain (index_of image.now address) n }
 {
     let first = address as usize;
@@ -106,18 +103,18 @@ pub fn is_plain_write(image: &[u8], address: u8, n: usize) -> bool
 }
 
 // The bytes of a plain write: its half of memory starts where it did to the end.
-fn put_bytes(image: &mut [u8], start: usize, offset: usize, bytes: &[u8])
-    requires { (length image.old ≡ image_length) × (start + 128 ≤ image_length) × (offset + length bytes.now ≤ 128) }
+fn put_bytes(image: &mut Image, start: usize, offset: usize, bytes: &[u8])
+    requires { (start + 128 ≤ image_length) × (offset + length bytes.now ≤ 128) }
     ensures { image.new ≡ bytes_put (start + offset) bytes.now image.old }
 {
-    for i in 0..bytes.len() {
-        put_byte(image, start, offset + i, bytes[i]);
+    for (i, byte) in bytes.iter().enumerate() {
+        put_byte(image, start, offset + i, *byte);
     }
 }
 
 // A plain write: its bytes, from an address on. The lanes' records have no part in it.
-pub fn write_plain(image: &mut [u8], address: u8, bytes: &[u8])
-    requires { (length image.old ≡ image_length) × (address + length bytes.now ≤ half_end address) }
+pub fn write_plain(image: &mut Image, address: u8, bytes: &[u8])
+    requires { address + length bytes.now ≤ half_end address }
     ensures { image.new ≡ bytes_put (index_of image.old address) bytes.now image.old }
 {
     let first = address as usize;

@@ -1,22 +1,20 @@
--- Descriptors lie in the image; their list, one more at a time; the tests of a lookup; and the view's Applications are those that are looked up. Assumes nothing.
-use mathlib.Core.Path.{◌≡◌, refl, sym, ap, ap₂, ◌∙◌}
-use mathlib.Core.Bool.{Bool, true, false, not, ◌&&◌}
+-- Descriptors lie in the image; the tests of a lookup; and the view's Applications are those that are looked up. Assumes nothing.
+use Rattle.std.proofs.Common.{None, Some}
+use mathlib.Core.Path.{◌≡◌, refl, sym, ap, ◌∙◌}
+use mathlib.Core.Bool.{Bool, true, false, ◌&&◌}
 use Prim.Native.Nat.{ℕ, ◌+◌, ◌≤◌, ◌<◌}
-use native.Mathlib.Numerals.{add-one}
 use native.Mathlib.Decide.{dec_lt}
 use native.Mathlib.Omega.{arith}
 use borrow.Author.Tests.{le-leb, lt-leb}
-use lib.Dec.{eqb, leb}
+use lib.Dec.{leb}
 use lib.ListN.{get_or}
 use Rattle.bits.specs.Choice.{both}
-use Rattle.bits.specs.Loop.{all_below}
 use Rattle.bits.specs.Number.{field}
 use Rattle.bits.proofs.Loops.{tab_at}
-use Rattle.bits.proofs.Tests.{pick_true, pick-false, and_both}
+use Rattle.bits.proofs.Tests.{pick_true, pick-false}
 use Rattle.model.specs.Map.{Image, image_length}
 use Rattle.model.specs.Applications.{application_count, first_on_page, descriptor_at, list_reaches, host_lane_count, is_present, lookup}
 use Rattle.model.specs.View.{applications_of, application_in}
-use Rattle.model.specs.declared.application.Lookup.TheVariants.{Missing, Found}
 use Rattle.model.proofs.Descriptors.{in_lower, on_page}
 
 and_three : (a b c : Bool) → ((a && b) && c) ≡ both a (both b c)
@@ -32,22 +30,12 @@ descriptor_fits {a} e h = elim (dec_lt a first_on_page) [
   | no n ↦ omega (arith, on_page a (omega arith))
 ]
 
-pub reaches_begin : (x : Image) → true ≡ list_reaches x 0
-unfolding list_reaches all_below
-reaches_begin x = refl
-
-pub reaches_turn : (x : Image) (n at : ℕ) (r : Bool) → at ≡ descriptor_at (n + 1) → r ≡ list_reaches x n
-    → (r && not (eqb (get_or x at 0) 255)) ≡ list_reaches x (n + 1)
-unfolding list_reaches all_below
-reaches_turn x n at r a e =
-    and_both r _ ∙ ap₂ both e (ap (λ i. not (eqb (get_or x i 0) 255)) a) ∙ ap (list_reaches x) (sym (add-one n))
-
 -- no descriptor has number 0, or one above 15
-pub below_first : (x : Image) (a : ℕ) → a ≡ 0 → Missing ≡ lookup x a
+pub below_first : (x : Image) (a : ℕ) → a ≡ 0 → None ≡ lookup x a
 unfolding lookup is_present both
 below_first x a e = sym (pick-false _ _ (rw (lt-leb 1 a (omega arith), both)))
 
-pub above_last : (x : Image) (a : ℕ) → application_count < a → Missing ≡ lookup x a
+pub above_last : (x : Image) (a : ℕ) → application_count < a → None ≡ lookup x a
 unfolding lookup is_present both
 above_last x a h = sym (pick-false _ _ (rw (le-leb 1 a (omega arith), lt-leb a application_count h, both)))
 
@@ -62,11 +50,11 @@ module _ (x : Image) (a at count : ℕ) (reaches : Bool) (low : 1 ≤ a) (high :
   unfolding is_present both
   present_test = and_three reaches (leb 1 count) (leb count 8) ∙ rw (own-count, reached, le-leb 1 a low, le-leb a application_count high, both)
 
-  pub found_by : ((reaches && leb 1 count) && leb count 8) ≡ true → Found (record { count = count; firsts = get_or x (at + 3) 0 }) ≡ lookup x a
+  pub found_by : ((reaches && leb 1 count) && leb count 8) ≡ true → Some (record { count = count; firsts = get_or x (at + 3) 0 }) ≡ lookup x a
   unfolding lookup
-  found_by t = (λ i. Found (record { count = own-count i; firsts = get_or x (begins i + 3) 0 })) ∙ sym (pick_true _ _ (sym present_test ∙ t))
+  found_by t = (λ i. Some (record { count = own-count i; firsts = get_or x (begins i + 3) 0 })) ∙ sym (pick_true _ _ (sym present_test ∙ t))
 
-  pub missing_by : ((reaches && leb 1 count) && leb count 8) ≡ false → Missing ≡ lookup x a
+  pub missing_by : ((reaches && leb 1 count) && leb count 8) ≡ false → None ≡ lookup x a
   unfolding lookup
   missing_by t = sym (pick-false _ _ (sym present_test ∙ t))
 

@@ -1,11 +1,11 @@
 // Looking up Applications: what the descriptor of an AppSel says, and whether it is there at all.
 #![tactic(auto)]
 
-ghost use Rattle.std.specs.Prelude.{◌≡◌, ◌≤◌, length};
+ghost use Rattle.std.specs.Prelude.{◌≡◌, ◌≤◌, ◌<◌, ◌+◌, eqb, not, get_or};
 ghost use Rattle.model.specs.Applications.{descriptor_at, list_reaches, lookup};
-ghost use Rattle.model.specs.Map.{image_length};
 
-use model::application::{Descriptor, Lookup};
+use model::application::Descriptor;
+use model::image::Image;
 use model::lane::LaneRecord;
 
 // Lower 86: where descriptor 1 stands.
@@ -36,36 +36,38 @@ fn descriptor_at(app: u8) -> usize
     MORE_DESCRIPTORS + SIZE * ((app - FIRST_ON_PAGE) as usize)
 }
 
+// Whether the descriptor after a number of others does not end the list: it does not begin with FFh.
+fn goes_on(image: &Image, before: u8) -> bool
+    requires { before < 15 }
+    ensures { result ≡ not (eqb (get_or image.now (descriptor_at (before + 1)) 0) 255) }
+{
+    image[descriptor_at(before + 1)] != END
+}
+
 // Whether no descriptor from 1 to app begins with FFh.
-fn list_reaches(image: &[u8], app: u8) -> bool
-    requires { (length image.now ≡ image_length) × (app ≤ 15) }
+fn list_reaches(image: &Image, app: u8) -> bool
+    requires { app ≤ 15 }
     ensures { result ≡ list_reaches image.now app }
 {
-    let mut reaches = true;
-    for before in 0..app {
-        let first = image[descriptor_at(before + 1)];
-        reaches = reaches & (first != END);
-    }
-    reaches
+    (0..app).all(|before| goes_on(image, before))
 }
 
 // The descriptor of an Application, if it is present.
-pub fn look_up(image: &[u8], app: u8) -> Lookup
-    requires { length image.now ≡ image_length }
+pub fn look_up(image: &Image, app: u8) -> Option<Descriptor>
     ensures { result ≡ lookup image.now app }
 {
     if app == 0 {
-        return Lookup::Missing;
+        return None;
     }
     if COUNT < app {
-        return Lookup::Missing;
+        return None;
     }
     let at = descriptor_at(app);
     let reaches = list_reaches(image, app);
     let count = bits::take_field(image[at + 2], 4, 4);
     if reaches & (1 <= count) & (count <= LaneRecord::COUNT) {
         let firsts = image[at + 3];
-        return Lookup::Found(Descriptor { count, firsts });
+        return Some(Descriptor { count, firsts });
     }
-    Lookup::Missing
+    None
 }

@@ -1,4 +1,5 @@
 -- The lanes that are planned are those that the model marks, and what they are given is what it gives them. Assumes nothing.
+use Rattle.std.proofs.Common.{None}
 use mathlib.Core.Path.{◌≡◌, sym, ap, ◌∙◌}
 use mathlib.Core.Bool.{true, not}
 use mathlib.Core.List.{List}
@@ -17,7 +18,6 @@ use Rattle.model.specs.Triggers.{is_marked, marked_stage}
 use Rattle.model.specs.declared.lane.LaneRecord.{LaneRecord}
 use Rattle.model.specs.declared.lane.Trigger.{Trigger}
 use Rattle.model.specs.declared.lane.StagedSet.{StagedSet}
-use Rattle.model.specs.declared.lane.Stage.TheVariants.{Idle}
 use Rattle.model.specs.declared.lane.Working.{Working}
 use Rattle.apply_plans.specs.declared.Given.{Given}
 use Rattle.apply_plans.specs.declared.Planned.{Planned}
@@ -27,7 +27,7 @@ use Rattle.apply_marks.specs.Marks.{Marks}
 
 -- the turn of the loop at lane l: its record has the stage that it is given
 abbrev pub giving : List Given → ℕ → List LaneRecord → List LaneRecord
-giving gs l rs = set rs l (with_stage (get_or rs l idle_record) (get_or gs l (given Idle)).stage)
+giving gs l rs = set rs l (with_stage (get_or rs l idle_record) (get_or gs l (given None)).stage)
 
 module _ (v : View) (w : Working) (selected busy : ℕ) (h : busy ≡ mask_of lane_count (λ m. is_in_progress (stage_at w m))) where
   pub planned_marked : (l : ℕ) → is_planned v busy selected l ≡ is_marked v w selected l
@@ -44,10 +44,10 @@ module _ (v : View) (w : Working) (selected busy : ℕ) (h : busy ≡ mask_of la
     marked-lane l b = rw marked-lanes (has-mask lane_count (is_marked v w selected) l b)
 
     -- what a marked lane is given
-    given_at : (l : ℕ) → l < lane_count → has p.marked l ≡ true → get_or p.given l (given Idle) ≡ given (marked_stage t staged v selected l)
+    given_at : (l : ℕ) → l < lane_count → has p.marked l ≡ true → get_or p.given l (given None) ≡ given (marked_stage t staged v selected l)
     given_at l b e =
-        ap (λ gs. get_or gs l (given Idle)) (d.given ∙ set_loop _ _ _ lane_count (given Idle) (length-tab lane_count (λ m. given Idle)))
-        ∙ tab_at lane_count _ l (given Idle) b
+        ap (λ gs. get_or gs l (given None)) (d.given ∙ set_loop _ _ _ lane_count (given None) (length-tab lane_count (λ m. given None)))
+        ∙ tab_at lane_count _ l (given None) b
         ∙ pick_true _ _ (planned_marked l ∙ sym (marked-lane l b) ∙ e)
 
     pub all_given : (m : Marking) → m.working.lanes ≡ each (has p.marked) (giving p.given) lane_count w.lanes → m.working.line ≡ w.line

@@ -1,4 +1,5 @@
 -- What is known of a group holds for each of its lanes; which lanes are planned, and planning lane by lane. Assumes nothing.
+use Rattle.std.proofs.Common.{None, Some, Option}
 use mathlib.Core.Path.{◌≡◌, refl, sym, ap, ◌∙◌}
 use mathlib.Core.Bool.{Bool, true, false, not}
 use Prim.Native.Nat.{ℕ, zero, suc, ◌+◌, ◌≤◌, ◌<◌}
@@ -27,8 +28,7 @@ use Rattle.model.specs.declared.lane.Trigger.{Trigger}
 use Rattle.model.specs.declared.lane.StagedSet.{StagedSet}
 use Rattle.model.specs.declared.lane.Verdict.{Verdict}
 use Rattle.model.specs.declared.lane.Verdict.TheVariants.{Pass}
-use Rattle.model.specs.declared.lane.Stage.{Stage}
-use Rattle.model.specs.declared.lane.Stage.TheVariants.{Idle, InProgress}
+use Rattle.model.specs.declared.lane.Progress.{Progress}
 use Rattle.apply_plans.specs.declared.Found.{Found}
 use Rattle.apply_plans.specs.declared.Given.{Given}
 use Rattle.apply_plans.specs.declared.Planned.{Planned}
@@ -38,22 +38,22 @@ use Rattle.apply_plans.proofs.Groups.{group-same}
 -- ---- groups
 
 module _ (t : Trigger) (v : View) (busy l g : ℕ) where
-  pub known_busy : some_in g (has busy) ≡ true → record { lane = l; group = g; free = false; verdict = Pass lane_count } ≡ known_of t v busy l g
+  pub known_busy : some_in g (has busy) ≡ true → record { lane = l; group = g; verdict = None } ≡ known_of t v busy l g
   unfolding known_of pick
   known_busy e = rw (e, pick)
 
-  pub known_free : (d : Verdict) → some_in g (has busy) ≡ false → d ≡ verdict_of t v g → record { lane = l; group = g; free = true; verdict = d } ≡ known_of t v busy l g
+  pub known_free : (d : Verdict) → some_in g (has busy) ≡ false → d ≡ verdict_of t v g → record { lane = l; group = g; verdict = Some d } ≡ known_of t v busy l g
   unfolding known_of pick
   known_free d e p = rw (e, pick, p)
 
 -- what was found last serves each lane of its group
 pub found_again : (t : Trigger) (v : View) (busy selected l : ℕ) (f : Found) → f ≡ found_for t v busy selected f.lane → has f.group l ≡ true → l < lane_count
-    → record { lane = l; group = f.group; free = f.free; verdict = f.verdict } ≡ found_for t v busy selected l
+    → record { lane = l; group = f.group; verdict = f.verdict } ≡ found_for t v busy selected l
 unfolding found_for known_of
 found_again t v busy selected l f e h b =
     let g : f.group ≡ group_of v selected f.lane = ap (λ q. q.group) e in
     let s : group_of v selected l ≡ group_of v selected f.lane = group-same v selected f.lane l (rw g at h) b in
-    λ i. record { lane = l; group = (g ∙ sym s) i; free = (ap (λ q. q.free) e ∙ ap (λ q. not (some_in q (has busy))) (sym s)) i; verdict = (ap (λ q. q.verdict) e ∙ ap (λ q. pick (some_in q (has busy)) (Pass lane_count) (verdict_of t v q)) (sym s)) i }
+    λ i. record { lane = l; group = (g ∙ sym s) i; verdict = (ap (λ q. q.verdict) e ∙ ap (λ q. pick (some_in q (has busy)) None (Some (verdict_of t v q))) (sym s)) i }
 
 -- what was found of a lane names it
 pub found_own : (t : Trigger) (v : View) (busy selected l : ℕ) (f : Found) → f ≡ found_for t v busy selected l → f ≡ found_for t v busy selected f.lane
@@ -66,14 +66,30 @@ pub unselected : (v : View) (busy selected l : ℕ) → has selected l ≡ false
 unfolding is_planned both
 unselected v busy selected l e = rw (e, both)
 
-pub selected_free : (t : Trigger) (v : View) (busy selected l : ℕ) (f : Found) (b : Bool) → has selected l ≡ true → f ≡ found_for t v busy selected l
-    → f.free ≡ b → is_planned v busy selected l ≡ b
+-- a group without a verdict has a lane in progress, and one with a verdict has none
+no_verdict : (b : Bool) (d : Verdict) → pick b None (Some d) ≡ None → not b ≡ false
+unfolding pick
+no_verdict true d e = refl
+no_verdict false d e = absurd (cc)
+
+a_verdict : (b : Bool) (d u : Verdict) → pick b None (Some d) ≡ Some u → (b ≡ false) × (d ≡ u)
+unfolding pick
+a_verdict true d u e = absurd (cc)
+a_verdict false d u e = (refl, cc)
+
+pub selected_busy : (t : Trigger) (v : View) (busy selected l : ℕ) (f : Found) → has selected l ≡ true → f ≡ found_for t v busy selected l
+    → f.verdict ≡ None → is_planned v busy selected l ≡ false
 unfolding is_planned both found_for known_of
-selected_free t v busy selected l f b e h p = rw (e, both) (sym (ap (λ q. q.free) h) ∙ p)
+selected_busy t v busy selected l f e h p = rw (e, both) (no_verdict _ _ (sym (ap (λ q. q.verdict) h) ∙ p))
+
+pub selected_free : (t : Trigger) (v : View) (busy selected l : ℕ) (f : Found) (u : Verdict) → has selected l ≡ true → f ≡ found_for t v busy selected l
+    → f.verdict ≡ Some u → is_planned v busy selected l ≡ true
+unfolding is_planned both found_for known_of
+selected_free t v busy selected l f u e h p = rw (e, both) (ap not (a_verdict _ _ u (sym (ap (λ q. q.verdict) h) ∙ p)).0)
 
 -- nothing planned yet
 abbrev pub none : Planned
-none = record { marked = 0; given = tab lane_count (λ l. given Idle) }
+none = record { marked = 0; given = tab lane_count (λ l. given None) }
 
 mask_pass : (p : ℕ → Bool) (n : ℕ) → p n ≡ false → mask_of n p ≡ mask_of (n + 1) p
 unfolding mask_of
@@ -100,23 +116,22 @@ module _ (t : Trigger) (staged : StagedSet) (x : Image) (busy selected : ℕ) wh
         }
 
     -- the stage that a planned lane is given
-    stage_by : (f : Found) (own : Stage) → n < lane_count → f ≡ found_for t v busy selected n → f.free ≡ true
-        → own ≡ InProgress (progress_of t staged f.group (settings_at base x n) f.verdict) → own ≡ marked_stage t staged v selected n
+    stage_by : (f : Found) (own : Option Progress) (u : Verdict) → n < lane_count → f ≡ found_for t v busy selected n → f.verdict ≡ Some u
+        → own ≡ Some (progress_of t staged f.group (settings_at base x n) u) → own ≡ marked_stage t staged v selected n
     unfolding marked_stage view_of found_for known_of
-    stage_by f own b h e r =
+    stage_by f own u b h e r =
         let g : f.group ≡ group_of v selected n = ap (λ q. q.group) h in
-        let free : some_in (group_of v selected n) (has busy) ≡ false = not-true _ (sym (ap (λ q. q.free) h) ∙ e) in
-        let d : f.verdict ≡ verdict_of t v (group_of v selected n) = ap (λ q. q.verdict) h ∙ pick-false _ _ free in
-        rw (r, d, g, settings-of base x n b)
+        let d : verdict_of t v (group_of v selected n) ≡ u = (a_verdict _ _ u (sym (ap (λ q. q.verdict) h) ∙ e)).1 in
+        rw (r, ← d, g, settings-of base x n b)
 
-    pub plan_turn : (f : Found) (own : Stage) (k : ℕ) → n < lane_count → is_planned v busy selected n ≡ true → Plans t staged v busy selected n p
-        → f ≡ found_for t v busy selected n → f.free ≡ true
-        → own ≡ InProgress (progress_of t staged f.group (settings_at base x n) f.verdict) → k ≡ with_field p.marked n 1 (bool_byte true)
+    pub plan_turn : (f : Found) (own : Option Progress) (u : Verdict) (k : ℕ) → n < lane_count → is_planned v busy selected n ≡ true → Plans t staged v busy selected n p
+        → f ≡ found_for t v busy selected n → f.verdict ≡ Some u
+        → own ≡ Some (progress_of t staged f.group (settings_at base x n) u) → k ≡ with_field p.marked n 1 (bool_byte true)
         → Plans t staged v busy selected (n + 1) (record { marked = k; given = set p.given n (given own) })
-    plan_turn f own k b e h q r s z =
+    plan_turn f own u k b e h q r s z =
         record {
           marked = mask_turn _ n p.marked k true h.marked (sym e) z;
-          given = rw (stage_by f own b q r s) (each_turn _ _ n _ p.given h.given e);
+          given = rw (stage_by f own u b q r s) (each_turn _ _ n _ p.given h.given e);
         }
 
   -- lanes that are not to be marked, from the first on

@@ -1,7 +1,7 @@
 // The reasons to reject a group, a test each.
 #![tactic(auto)]
 
-ghost use Rattle.std.specs.Prelude.{◌≡◌, not, ◌+◌, ◌≤◌, ◌<◌, ltb, length};
+ghost use Rattle.std.specs.Prelude.{◌≡◌, not, ◌+◌, ◌≤◌, ◌<◌, ltb};
 ghost use Rattle.bits.specs.Choice.{both, either};
 ghost use Rattle.bits.specs.Sets.{has, first_in, lane_count};
 ghost use Rattle.model.specs.Map.{active_set, image_length, set_length};
@@ -10,6 +10,7 @@ ghost use Rattle.model.specs.Verdicts.{other_app_sel, misplaced, incomplete, cro
 
 use map::ACTIVE_SET;
 use model::application::Descriptor;
+use model::image::Image;
 use model::lane::{LaneRecord, Trigger};
 use model::path::PathState;
 
@@ -23,8 +24,8 @@ const PRE_AND_POST: usize = map::PAGE_01 + (154 - 128);
 const HIGHEST_AMPLITUDE: u8 = 3;
 
 // Whether a lane of the group has another AppSel than app in the set at a base.
-pub fn has_other_app_sel(image: &[u8], base: usize, group: u8, app: u8) -> bool
-    requires { (length image.now ≡ image_length) × (base + set_length ≤ image_length) }
+pub fn has_other_app_sel(image: &Image, base: usize, group: u8, app: u8) -> bool
+    requires { base + set_length ≤ image_length }
     ensures { result ≡ other_app_sel (settings_of base image.now) group app }
 {
     bits_sets::meets(group, !view_paths::lanes_with_app(image, base, app))
@@ -50,8 +51,7 @@ pub fn is_incomplete(d: Descriptor, first: u8, group: u8) -> bool
 }
 
 // Whether a lane of the group is on an active path of other lanes. The group's first used lane tells: where its path is the group, so is that of the others.
-pub fn is_crossing(image: &[u8], group: u8) -> bool
-    requires { length image.now ≡ image_length }
+pub fn is_crossing(image: &Image, group: u8) -> bool
     ensures { result ≡ crossing (settings_of active_set image.now) group }
 {
     let used = group & view_paths::used_lanes(image, ACTIVE_SET);
@@ -73,8 +73,8 @@ fn is_refused(supported: u8, amplitude: u8) -> bool
 }
 
 // Whether a lane has ExplicitControl 1 and a setting staged that the module does not offer.
-fn is_out_of_limits(image: &[u8], base: usize, lane: u8) -> bool
-    requires { (length image.now ≡ image_length) × (base + set_length ≤ image_length) × (lane < lane_count) }
+fn is_out_of_limits(image: &Image, base: usize, lane: u8) -> bool
+    requires { (base + set_length ≤ image_length) × (lane < lane_count) }
     ensures { result ≡ out_of_limits (limits_of image.now) (of (settings_of base image.now) lane) }
 {
     let h = view_settings::settings_at(image, base, lane);
@@ -88,30 +88,23 @@ fn is_out_of_limits(image: &[u8], base: usize, lane: u8) -> bool
 }
 
 // Whether a lane is one of the group and out of limits.
-fn exceeds(image: &[u8], base: usize, group: u8, lane: u8) -> bool
-    requires { (length image.now ≡ image_length) × (base + set_length ≤ image_length) × (lane < lane_count) }
+fn exceeds(image: &Image, base: usize, group: u8, lane: u8) -> bool
+    requires { (base + set_length ≤ image_length) × (lane < lane_count) }
     ensures { result ≡ both (has group lane) (out_of_limits (limits_of image.now) (of (settings_of base image.now) lane)) }
 {
-    if !bits_sets::is_in(group, lane) {
-        return false;
-    }
-    is_out_of_limits(image, base, lane)
+    bits_sets::is_in(group, lane) && is_out_of_limits(image, base, lane)
 }
 
-pub fn is_unsupported(image: &[u8], base: usize, group: u8) -> bool
-    requires { (length image.now ≡ image_length) × (base + set_length ≤ image_length) }
+// Whether a lane of the group is out of limits.
+pub fn is_unsupported(image: &Image, base: usize, group: u8) -> bool
+    requires { base + set_length ≤ image_length }
     ensures { result ≡ unsupported (view_of base image.now) group }
 {
-    let mut unsupported = false;
-    for lane in 0..LaneRecord::COUNT {
-        unsupported = unsupported | exceeds(image, base, group, lane);
-    }
-    unsupported
+    (0..LaneRecord::COUNT).any(|lane| exceeds(image, base, group, lane))
 }
 
 // The state of a group: its first lane's.
-fn state_of(image: &[u8], group: u8) -> u8
-    requires { length image.now ≡ image_length }
+fn state_of(image: &Image, group: u8) -> u8
     ensures { result ≡ state_in (states_of image.now) (first_in group) }
 {
     let first = bits_sets::next_in(group, 0);
@@ -122,8 +115,7 @@ fn state_of(image: &[u8], group: u8) -> u8
 }
 
 // Whether an ApplyImmediate changes an AppSel outside DPDeactivated. The staged set has no part in it: the view is that of any.
-fn is_too_late(image: &[u8], trigger: Trigger, group: u8, app: u8) -> bool
-    requires { length image.now ≡ image_length }
+fn is_too_late(image: &Image, trigger: Trigger, group: u8, app: u8) -> bool
     ensures { result ≡ too_late trigger (view_of active_set image.now) group app }
 {
     match trigger {
@@ -136,10 +128,9 @@ fn is_too_late(image: &[u8], trigger: Trigger, group: u8, app: u8) -> bool
 }
 
 // Whether the group's state does not allow the Apply. The staged set has no part in it either.
-pub fn is_wrong_state(image: &[u8], trigger: Trigger, group: u8, app: u8) -> bool
-    requires { length image.now ≡ image_length }
+pub fn is_wrong_state(image: &Image, trigger: Trigger, group: u8, app: u8) -> bool
     ensures { result ≡ wrong_state trigger (view_of active_set image.now) group app }
 {
-    let state = PathState::of(state_of(image, group));
+    let state = PathState::from(state_of(image, group));
     !view_paths::is_resting(state) | is_too_late(image, trigger, group, app)
 }

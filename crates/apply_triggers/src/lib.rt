@@ -1,12 +1,12 @@
 // A trigger: the groups that it finds are marked, with their verdicts fixed at once and what is staged held.
 #![tactic(auto)]
 
-ghost use Rattle.std.specs.Prelude.{◌≡◌, length};
-ghost use Rattle.model.specs.Map.{image_length};
+ghost use Rattle.std.specs.Prelude.{◌≡◌};
 ghost use Rattle.model.specs.Triggers.{is_ignored, triggered_state};
 ghost use Rattle.contracts.specs.Forms.{IsState};
 ghost use Rattle.model.specs.State.{state_with};
 
+use model::image::Image;
 use model::lane::{StagedSet, Trigger, Working};
 use model::status::Status;
 
@@ -14,8 +14,7 @@ use model::status::Status;
 const CHARACTERISTICS: usize = 2;
 
 // Whether the module ignores a trigger: ApplyImmediate where it is configured in steps only.
-fn is_ignored(image: &[u8], kind: Trigger) -> bool
-    requires { length image.now ≡ image_length }
+fn is_ignored(image: &Image, kind: Trigger) -> bool
     ensures { result ≡ is_ignored kind image.now }
 {
     match kind {
@@ -25,8 +24,13 @@ fn is_ignored(image: &[u8], kind: Trigger) -> bool
 }
 
 // A trigger of a staged set, for the selected lanes.
-pub fn trigger(image: &mut [u8], w: Working, kind: Trigger, set: StagedSet, selected: u8) -> Working
-    requires { length image.old ≡ image_length }
+pub fn trigger(
+    image: &mut Image,
+    w: Working,
+    kind: Trigger,
+    set: StagedSet,
+    selected: u8,
+) -> Working
     ensures { IsState (triggered_state kind set (state_with image.old w) selected) image.new result }
 {
     if is_ignored(image, kind) {

@@ -8,4 +8,5 @@ pub mod Lanes
 pub mod Masks
 pub mod Sets
 pub mod Turns
+pub mod Chains
 pub mod Words

@@ -42,7 +42,7 @@ module _ {A : Type 0} (p : A → Bool) where
 -- ---- a table
 
 -- the search below a count, from its front
-any_front : (n : ℕ) (p : ℕ → Bool) → any_below (suc n) p ≡ either (p 0) (any_below n (λ k. p (suc k)))
+pub any_front : (n : ℕ) (p : ℕ → Bool) → any_below (suc n) p ≡ either (p 0) (any_below n (λ k. p (suc k)))
 unfolding any_below either
 any_front zero p = sym (either-none (p 0))
 any_front (suc n) p = ap (λ b. either b (p (suc n))) (any_front n p) ∙ either_assoc (p 0) _ _

@@ -2,7 +2,7 @@
 use mathlib.Core.Path.{◌≡◌, refl, sym, ap, ◌∙◌}
 use mathlib.Core.Bool.{Bool}
 use mathlib.Core.List.{List}
-use Prim.Native.Nat.{ℕ, zero, suc, ◌+◌, ◌*◌, ◌/◌, ◌%◌, ◌^◌, ◌<◌}
+use Prim.Native.Nat.{ℕ, zero, suc, ◌+◌, ◌*◌, ◌^◌, ◌<◌}
 use native.Mathlib.Decide.{dec_lt}
 use native.Mathlib.Nat.{mul-le-mul_right}
 use native.Mathlib.Omega.{arith}
@@ -16,22 +16,6 @@ use Rattle.bits.proofs.Number.{digit-of-field, lowest}
 use Rattle.bits.proofs.Places.{Bytes}
 use Rattle.bits.proofs.Tests.{either_assoc, either-none}
 use Rattle.bits_low.specs.LowFirst.{low_first}
-
--- four bytes, and eight as four and four
-pub four_bytes : (x : List ℕ) (at : ℕ) → low_first 4 x at ≡ get_or x at 0 + 256 * get_or x (at + 1) 0 + 65536 * (get_or x (at + 2) 0 + 256 * get_or x (at + 3) 0)
-unfolding low_first
-four_bytes x at =
-    let e : at + 0 ≡ at = omega arith in
-    rw e (omega arith)
-
-pub two_words : (x : List ℕ) (at : ℕ) → low_first 8 x at ≡ low_first 4 x at + 4294967296 * low_first 4 x (at + 4)
-unfolding low_first
-two_words x at =
-    let e : at + 4 + 0 ≡ at + 4 = omega arith in
-    let f : at + 4 + 1 ≡ at + 5 = omega arith in
-    let g : at + 4 + 2 ≡ at + 6 = omega arith in
-    let h : at + 4 + 3 ≡ at + 7 = omega arith in
-    rw (e, f, g, h) (omega arith)
 
 pub low-lt : (n : ℕ) (x : List ℕ) (at : ℕ) → Bytes x → low_first n x at < 2 ^ (8 * n)
 unfolding low_first

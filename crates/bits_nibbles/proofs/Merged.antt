@@ -1,6 +1,6 @@
 -- Four bytes with a value in the nibbles of a set's lanes are what the puts leave, lane by lane: digit by digit. Assumes nothing.
-use mathlib.Core.Path.{◌≡◌, refl, sym, ap, ap₂, ◌∙◌}
-use mathlib.Core.Bool.{Bool, true, false, not}
+use mathlib.Core.Path.{◌≡◌, sym, ap, ap₂, ◌∙◌}
+use mathlib.Core.Bool.{true, false}
 use mathlib.Core.List.{List}
 use mathlib.Core.Logic.{◌≢◌, ◌⊎◌, inl, inr}
 use Prim.Native.Nat.{ℕ, ◌+◌, ◌-◌, ◌*◌, ◌/◌, ◌%◌, ◌^◌, ◌≤◌, ◌<◌}
@@ -15,11 +15,11 @@ use Rattle.bits.specs.Lane.{lane_field}
 use Rattle.bits.specs.Loop.{each}
 use Rattle.bits.specs.Number.{field}
 use Rattle.bits.specs.Place.{put, digit, covers}
-use Rattle.bits.specs.Sets.{has, mask_of}
+use Rattle.bits.specs.Sets.{has}
 use Rattle.bits.proofs.Loops.{each_skip, each_hit, length_puts}
 use Rattle.bits.proofs.Masks.{digit-has, has-mask, mask_lt}
 use Rattle.bits.proofs.Number.{got_lt, digit-of-field, field_past}
-use Rattle.bits.proofs.Places.{Bytes, In, covers_in, in_covers, digit-put-out, digit-put_in, image_ext}
+use Rattle.bits.proofs.Places.{Bytes, covers_in, in_covers, digit-put-out, digit-put_in, image_ext}
 use Rattle.bits.proofs.Sets.{has_and, has_or, has_rest}
 use Rattle.bits.proofs.Tests.{split, clash, choose, pick_true, pick-false}
 use Rattle.bits_low.specs.LowFirst.{low_first}

@@ -1,12 +1,11 @@
 -- The nibbles of every set of lanes, and a value repeated in every nibble, by computation. Assumes nothing.
 use mathlib.Core.Path.{◌≡◌, refl, sym, ap, ◌∙◌}
-use mathlib.Core.Bool.{Bool, true}
-use Prim.Native.Nat.{ℕ, ◌+◌, ◌*◌, ◌/◌, ◌%◌, ◌^◌, ◌<◌}
+use mathlib.Core.Bool.{true}
+use Prim.Native.Nat.{ℕ, ◌+◌, ◌*◌, ◌/◌, ◌%◌, ◌<◌}
 use native.Mathlib.Omega.{arith}
 use borrow.Author.Tests.{eqb-true}
 use lib.Bits.{bit_and, bit_or}
 use lib.Dec.{eqb}
-use mir.Val.{bool_byte}
 use Rattle.bits.specs.Choice.{both}
 use Rattle.bits.specs.Loop.{all_below}
 use Rattle.bits.specs.Number.{field, with_field}

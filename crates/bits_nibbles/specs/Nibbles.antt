@@ -1,5 +1,5 @@
 -- The nibbles of a set's lanes in a number of 32 bits: lane l's are the bits 4 l .. 4 l + 3.
-use Rattle.std.specs.Prelude.{ℕ, ◌+◌, ◌*◌, ◌/◌, ◌%◌, List, set}
+use Rattle.std.specs.Prelude.{ℕ, ◌+◌, ◌/◌, ◌%◌, List, set}
 use Rattle.bits.specs.Sets.{LaneSet, has, mask_of}
 
 -- the bits of the nibbles of a set's lanes

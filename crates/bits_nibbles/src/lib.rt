@@ -24,10 +24,7 @@ fn put_word4(image: &mut [u8], at: usize, v: u32)
     requires { at + 4 ≤ length image.old }
     ensures { image.new ≡ put_low4 image.old at v }
 {
-    image[at] = (v % 256) as u8;
-    image[at + 1] = (v / 256 % 256) as u8;
-    image[at + 2] = (v / 65536 % 256) as u8;
-    image[at + 3] = (v / 16777216) as u8;
+    image[at..at + 4].copy_from_slice(&v.to_le_bytes());
 }
 
 // v put into the nibble of each lane of a set.

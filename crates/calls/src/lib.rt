@@ -7,6 +7,7 @@ ghost use Rattle.model.specs.State.{state_with};
 ghost use Rattle.model.specs.Outcome.{start_outcome, call_outcome};
 
 use contracts::Returned;
+use model::answer::Answer;
 use model::event::Event;
 use model::lane::Working;
 
@@ -15,8 +16,11 @@ pub fn start(image: &mut [u8]) -> Returned
     ensures { IsOutcome (start_outcome image.old) result image.new [] }
 {
     let idle = Working::idle();
+    let Some(image) = image.as_mut_array() else {
+        return contracts::reply(Answer::WrongLength, idle);
+    };
     let answer = start_image::refusal(image);
-    if answer.number() != 0 {
+    if answer != Answer::Done {
         return contracts::reply(answer, idle);
     }
     start_image::reset(image);
@@ -27,8 +31,11 @@ pub fn start(image: &mut [u8]) -> Returned
 pub fn call(image: &mut [u8], w: Working, event: Event, buffer: &mut [u8]) -> Returned
     ensures { IsOutcome (call_outcome (state_with image.old w) buffer.old event) result image.new buffer.new }
 {
+    let Some(image) = image.as_mut_array() else {
+        return contracts::reply(Answer::WrongLength, w);
+    };
     let answer = refusals::refusal(image, w);
-    if answer.number() != 0 {
+    if answer != Answer::Done {
         return contracts::reply(answer, w);
     }
     step::step(image, w, event, buffer)

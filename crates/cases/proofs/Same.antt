@@ -1,4 +1,5 @@
 -- The test of equal states tells equality, and so the claim that nothing changes. Assumes nothing.
+use Rattle.std.proofs.Common.{None, Some, Option}
 use mathlib.Core.Path.{◌≡◌, refl, ap, ap₂}
 use mathlib.Core.Bool.{Bool, true, false}
 use mathlib.Core.List.{List, [], ◌∷◌}
@@ -26,8 +27,7 @@ use Rattle.model.specs.declared.lane.Trigger.{Trigger}
 use Rattle.model.specs.declared.lane.Trigger.TheVariants.{DpInit, Immediate}
 use Rattle.model.specs.declared.lane.Verdict.{Verdict}
 use Rattle.model.specs.declared.lane.Verdict.TheVariants.{Pass, Reject}
-use Rattle.model.specs.declared.lane.Stage.{Stage}
-use Rattle.model.specs.declared.lane.Stage.TheVariants.{Idle, InProgress}
+use Rattle.model.specs.declared.lane.Progress.{Progress}
 use Rattle.model.specs.declared.lane.LaneRecord.{LaneRecord}
 use Rattle.cases.specs.Same.{same_bytes, same_stage, same_records, same_line, same_state}
 use Rattle.cases.specs.Case.{changes_nothing}
@@ -76,14 +76,14 @@ same-settings h k e = λ i. record {
     at : (j : ℕ) → j < setting_count → get_or (setting_values h) j 0 ≡ get_or (setting_values k) j 0
     at j b = eqb-true _ _ (all_at setting_count _ e j b)
 
-same-stage : (a b : Stage) → same_stage a b ≡ true → a ≡ b
+same-stage : (a b : Option Progress) → same_stage a b ≡ true → a ≡ b
 unfolding same_stage agrees held_in
-same-stage Idle Idle e = refl
-same-stage Idle (InProgress q) e = absurd (clash e refl)
-same-stage (InProgress p) Idle e = absurd (clash (both_l _ _ e) refl)
-same-stage (InProgress p) (InProgress q) e = ap InProgress alike
+same-stage None None e = refl
+same-stage None (Some q) e = absurd (clash e refl)
+same-stage (Some p) None e = absurd (clash (both_l _ _ e) refl)
+same-stage (Some p) (Some q) e = ap Some alike
   where
-    agreed : agrees p (InProgress q) ≡ true
+    agreed : agrees p (Some q) ≡ true
     agreed = both_l _ _ e
 
     alike : p ≡ q

@@ -1,11 +1,10 @@
 -- Equality of two states as a test: every byte of the image, every lane's record and the low-power line.
-use Rattle.std.specs.Prelude.{ℕ, Bool, true, false, List, [], ◌∷◌, eqb}
+use Rattle.std.specs.Prelude.{ℕ, Bool, true, false, List, [], ◌∷◌, eqb, None, Some, Option}
 use Rattle.bits.specs.Choice.{both, implies}
 use Rattle.model.specs.Records.{held_in}
 use Rattle.model.specs.State.{State}
 use Rattle.model.specs.Sound.{agrees, same_settings}
-use Rattle.model.specs.declared.lane.Stage.{Stage}
-use Rattle.model.specs.declared.lane.Stage.TheVariants.{Idle, InProgress}
+use Rattle.model.specs.declared.lane.Progress.{Progress}
 use Rattle.model.specs.declared.lane.LaneRecord.{LaneRecord}
 
 unfoldable pub same_bytes : List ℕ → List ℕ → Bool
@@ -15,10 +14,10 @@ same_bytes (x ∷ xs) [] = false
 same_bytes (x ∷ xs) (y ∷ ys) = both (eqb x y) (same_bytes xs ys)
 
 -- both idle, or in progress with the same group, trigger, verdict, next lane and held settings
-unfoldable pub same_stage : Stage → Stage → Bool
-same_stage Idle Idle = true
-same_stage Idle (InProgress q) = false
-same_stage (InProgress p) s = both (agrees p s) (same_settings p.held (held_in s))
+unfoldable pub same_stage : Option Progress → Option Progress → Bool
+same_stage None None = true
+same_stage None (Some q) = false
+same_stage (Some p) s = both (agrees p s) (same_settings p.held (held_in s))
 
 unfoldable pub same_records : List LaneRecord → List LaneRecord → Bool
 same_records [] [] = true

@@ -1,4 +1,5 @@
 -- The test of two runs side by side means what it says. Assumes nothing.
+use Rattle.std.proofs.Common.{None, Some, Option}
 use mathlib.Core.Path.{◌≡◌, refl, sym, ◌∙◌}
 use mathlib.Core.Bool.{Bool, true, false, not}
 use mathlib.Core.List.{List, [], ◌∷◌}
@@ -18,8 +19,7 @@ use Rattle.model.specs.View.{View}
 use Rattle.model.specs.declared.event.Call.{Call}
 use Rattle.model.specs.declared.event.Call.TheVariants.{Write, Read, Work, Hardware, Condition, Sample, Lasting, Module, Line}
 use Rattle.model.specs.declared.event.Event.{Event}
-use Rattle.model.specs.declared.lane.TriggerPlace.{TriggerPlace}
-use Rattle.model.specs.declared.lane.TriggerPlace.TheVariants.{NoTrigger, Applies}
+use Rattle.model.specs.declared.lane.Apply.{Apply}
 use Rattle.laws_links.specs.Links.{Inside, OnlyOf, SameBytes, ConcernsAt, Concerns, SameCalls, OwnCall, PathsParted, GroupsParted, ByteParted, BytesParted, CallParted, Parted, Supposed}
 use Rattle.cases_links.specs.Side.{Side, shared, of_first, of_second, laid_out, paths_test, groups_test, byte_test, bytes_test, call_test, parted_test, is_inside, only_test, shared_test, concerns_test, own_bytes_test, own_test, module_test, supposed_test}
 
@@ -39,10 +39,10 @@ module _ (A : ℕ) where
   unfolding groups_test
   groups_mean v sel e l m h k s g = same_means _ _ (implies_use _ _ (all_at 8 _ (all_at 8 _ e l h) m k) (both_i s g))
 
-  byte_means : (place : TriggerPlace) (s : State) (v : ℕ) → byte_test place A s v ≡ true → ByteParted place A s v
+  byte_means : (place : Option Apply) (s : State) (v : ℕ) → byte_test place A s v ≡ true → ByteParted place A s v
   unfolding byte_test
-  byte_means NoTrigger s v e = tt
-  byte_means (Applies a) s v e = λ n. elim (either_cases _ _ e) [
+  byte_means None s v e = tt
+  byte_means (Some a) s v e = λ n. elim (either_cases _ _ e) [
     | inl i ↦ absurd (clash i n)
     | inr g ↦ groups_mean _ v g
   ]
@@ -102,9 +102,9 @@ module _ (A : ℕ) where
   shared_means s vs Module e = refl
   shared_means s vs (Line on) e = refl
 
-  concerns_mean : (place : TriggerPlace) (s : State) (i v : ℕ) → concerns_test place A s i v ≡ true → ConcernsAt place A s i v
+  concerns_mean : (place : Option Apply) (s : State) (i v : ℕ) → concerns_test place A s i v ≡ true → ConcernsAt place A s i v
   unfolding concerns_test digit
-  concerns_mean NoTrigger s i v e = λ w b n.
+  concerns_mean None s i v e = λ w b n.
       let t = implies_use _ _ e w in
       elim (dec_lt b 8) [
         | yes h ↦ elim (either_cases _ _ (all_at 8 _ (both_r _ _ t) b h)) [
@@ -114,7 +114,7 @@ module _ (A : ℕ) where
         | no h ↦ field_past v 8 b 1 (ltb-true _ _ (both_l _ _ (both_l _ _ t))) (omega arith)
             ∙ sym (field_past (get_or s.image i 0) 8 b 1 (ltb-true _ _ (both_r _ _ (both_l _ _ t))) (omega arith))
       ]
-  concerns_mean (Applies a) s i v e = only_means v e
+  concerns_mean (Some a) s i v e = only_means v e
 
   own-bytes_mean : (vs : List ℕ) (address : ℕ) (s : State) → own_bytes_test A s address vs ≡ true → Concerns A s address vs
   unfolding own_bytes_test Concerns

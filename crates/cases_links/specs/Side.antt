@@ -1,5 +1,5 @@
 -- Two runs side by side as a test that the checker computes: moments of both runs are the same event.
-use Rattle.std.specs.Prelude.{suc, Bool, true, false, not, List, [], ◌∷◌, eqb, leb, ltb, length, get_or, take}
+use Rattle.std.specs.Prelude.{suc, Bool, true, false, not, List, [], ◌∷◌, eqb, leb, ltb, length, get_or, take, None, Some, Option}
 use Rattle.bits.specs.Choice.{both, either, implies, same}
 use Rattle.bits.specs.Loop.{all_below}
 use Rattle.bits.specs.Number.{field}
@@ -18,8 +18,7 @@ use Rattle.model.specs.Step.{step}
 use Rattle.model.specs.declared.event.Call.{Call}
 use Rattle.model.specs.declared.event.Call.TheVariants.{Write, Read, Work, Hardware, Condition, Sample, Lasting, Module, Line}
 use Rattle.model.specs.declared.event.Event.{Event}
-use Rattle.model.specs.declared.lane.TriggerPlace.{TriggerPlace}
-use Rattle.model.specs.declared.lane.TriggerPlace.TheVariants.{NoTrigger, Applies}
+use Rattle.model.specs.declared.lane.Apply.{Apply}
 use Rattle.laws_links.specs.Links.{inside, Moment, in_both_runs, in_first_alone, in_second_alone}
 
 -- a moment: an event of both runs, or of one
@@ -40,9 +39,9 @@ paths_test A x = all_below lane_count (λ l. all_below lane_count (λ m. implies
 unfoldable pub groups_test : LaneSet → View → LaneSet → Bool
 groups_test A v selected = all_below lane_count (λ l. all_below lane_count (λ m. implies (both (has selected l) (has (group_of v selected l) m)) (same (has A m) (has A l))))
 
-unfoldable pub byte_test : TriggerPlace → LaneSet → State → Byte → Bool
-byte_test NoTrigger A s v = true
-byte_test (Applies a) A s v = either (is_ignored a.trigger s.image) (groups_test A (view_of (staged_base a.set) s.image) v)
+unfoldable pub byte_test : Option Apply → LaneSet → State → Byte → Bool
+byte_test None A s v = true
+byte_test (Some a) A s v = either (is_ignored a.trigger s.image) (groups_test A (view_of (staged_base a.set) s.image) v)
 
 unfoldable pub bytes_test : LaneSet → State → Address → Bytes → Bool
 bytes_test A s address [] = true
@@ -82,10 +81,10 @@ shared_test A (Lasting flag on off) = true
 shared_test A Module = true
 shared_test A (Line on) = true
 
-unfoldable pub concerns_test : TriggerPlace → LaneSet → State → Index → Byte → Bool
-concerns_test NoTrigger A s i v =
+unfoldable pub concerns_test : Option Apply → LaneSet → State → Index → Byte → Bool
+concerns_test None A s i v =
     implies (writable i) (both (both (ltb v 256) (ltb (get_or s.image i 0) 256)) (all_below 8 (λ b. either (inside A i b) (eqb (field v b 1) (digit s.image i b)))))
-concerns_test (Applies a) A s i v = only_test A v
+concerns_test (Some a) A s i v = only_test A v
 
 unfoldable pub own_bytes_test : LaneSet → State → Address → Bytes → Bool
 own_bytes_test A s address [] = true

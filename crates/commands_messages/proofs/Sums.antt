@@ -1,20 +1,47 @@
--- Sums of bytes: a turn of the loop in code, and how large they get. Assumes nothing.
-use mathlib.Core.Path.{◌≡◌, refl}
-use Prim.Native.Nat.{ℕ, zero, suc, ◌+◌, ◌*◌, ◌≤◌, ◌<◌}
-use native.Mathlib.Numerals.{add-one}
+-- Sums of bytes: those of a list's values and of numbers in a row, and how large they get. Assumes nothing.
+use mathlib.Core.Path.{◌≡◌, refl, sym, ap, ◌∙◌}
+use mathlib.Core.List.{List, [], ◌∷◌}
+use Prim.Native.Nat.{ℕ, zero, suc, ◌+◌, ◌-◌, ◌*◌, ◌≤◌, ◌<◌}
 use native.Mathlib.Omega.{arith}
+use lib.ListN.{length, get_or, take, drop}
+use lib.Seq.{length-take-le}
+use Rattle.std.specs.List.{sum_by, range_with_len}
+use Rattle.std.proofs.lemmas.List.{get_or-drop, get_or-take, length-drop}
+use Rattle.std.proofs.lemmas.List.FromFn.{length-range_with_len, get_or-range_with_len}
+use Rattle.std.proofs.lemmas.List.Sums.{sum_by-cons}
 use Rattle.model.specs.Commands.{sum_of}
 
-module _ (f : ℕ → ℕ) where
-  pub sum_begin : 0 ≡ sum_of 0 f
-  unfolding sum_of
-  sum_begin = refl
+-- the lowest number's value comes first or last
+sum_front : (n : ℕ) (f : ℕ → ℕ) → sum_of (suc n) f ≡ f 0 + sum_of n (λ k. f (suc k))
+unfolding sum_of
+sum_front zero f = omega arith
+sum_front (suc n) f = omega (arith, sum_front n f)
 
-  pub sum_turn : (n total byte : ℕ) → total ≡ sum_of n f → byte ≡ f n → total + byte ≡ sum_of (n + 1) f
-  unfolding sum_of
-  sum_turn n total byte e h = rw (add-one n, e, h)
+-- equal values
+sum_ext : (n : ℕ) (f g : ℕ → ℕ) → ((k : ℕ) → k < n → f k ≡ g k) → sum_of n f ≡ sum_of n g
+unfolding sum_of
+sum_ext zero f g e = refl
+sum_ext (suc n) f g e = omega (arith, sum_ext n f g (λ k b. e k (omega arith)), e n (omega arith))
 
-  pub sum_bound : (n : ℕ) → ((k : ℕ) → f k < 256) → sum_of n f ≤ 255 * n
-  unfolding sum_of
-  sum_bound zero h = omega arith
-  sum_bound (suc n) h = omega (arith, sum_bound n h, h n)
+sum_list : {A : Type 0} (h : A → ℕ) (d : A) (ys : List A) → sum_by h ys ≡ sum_of (length ys) (λ k. h (get_or ys k d))
+unfolding sum_of
+sum_list h d [] = refl
+sum_list h d (y ∷ ys) = sum_by-cons h y ys ∙ ap (λ s. h y + s) (sum_list h d ys) ∙ sym (sum_front (length ys) (λ k. h (get_or (y ∷ ys) k d)))
+
+-- a part of a list
+pub sum_part : (x : List ℕ) (i n : ℕ) → i + n ≤ length x → sum_by (λ b. b) (take (i + n - i) (drop i x)) ≡ sum_of n (λ k. get_or x (i + k) 0)
+sum_part x i n h =
+    let whole : i + n - i ≡ n = omega arith in
+    let long : length (take n (drop i x)) ≡ n = length-take-le n (drop i x) (omega (arith, length-drop i x)) in
+    rw whole (sum_list (λ b. b) 0 (take n (drop i x)) ∙ rw long (sum_ext n _ _ (λ k b. get_or-take n (drop i x) k 0 b ∙ get_or-drop i x k 0)))
+
+-- numbers in a row
+pub sum_range : (h : ℕ → ℕ) (n : ℕ) → sum_by h (range_with_len 0 n) ≡ sum_of n h
+sum_range h n =
+    sum_list h 0 (range_with_len 0 n)
+    ∙ rw (length-range_with_len 0 n) (sum_ext n _ _ (λ k b. ap h (get_or-range_with_len 0 n k 0 b ∙ omega arith)))
+
+pub sum_bound : (f : ℕ → ℕ) (n : ℕ) → ((k : ℕ) → f k < 256) → sum_of n f ≤ 255 * n
+unfolding sum_of
+sum_bound f zero h = omega arith
+sum_bound f (suc n) h = omega (arith, sum_bound f n h, h n)

@@ -3,9 +3,9 @@
 
 ghost use Rattle.std.specs.Prelude.{◌≡◌, ◌+◌, ◌≤◌, length, get_or};
 ghost use Rattle.model.specs.Commands.{sum_of, check_code, body_limit, right_code, is_code_right, status_of};
-ghost use Rattle.model.specs.Map.{image_length};
 
 use model::command::CommandStatus;
+use model::image::Image;
 
 // Page 9Fh: the command's number, the length of its body, the code of the message, and its body, which is where a reply has its own.
 const COMMAND_NUMBER: usize = map::PAGE_9F + (128 - 128);
@@ -26,11 +26,10 @@ fn sum(image: &[u8], from: usize, count: usize) -> u16
     requires { (from + count ≤ length image.now) × (count ≤ body_limit) }
     ensures { result ≡ sum_of count (λ k. get_or image.now (from + k) 0) }
 {
-    let mut total = 0u16;
-    for k in 0..count {
-        total = total + (image[from + k] as u16);
-    }
-    total
+    image[from..from + count]
+        .iter()
+        .map(|byte| u16::from(*byte))
+        .sum()
 }
 
 // The ones' complement of a sum's low byte.
@@ -41,8 +40,8 @@ pub fn check_code(sum: u16) -> u8
 }
 
 // The code that a message with a body of so many bytes should have.
-fn right_code(image: &[u8], count: u8) -> u8
-    requires { (length image.now ≡ image_length) × (count ≤ body_limit) }
+fn right_code(image: &Image, count: u8) -> u8
+    requires { count ≤ body_limit }
     ensures { result ≡ right_code image.now count }
 {
     let header = sum(image, COMMAND_NUMBER, SUMMED_HEADER);
@@ -51,8 +50,7 @@ fn right_code(image: &[u8], count: u8) -> u8
 }
 
 // Whether the message's body has room on the page, and its code is right.
-fn is_code_right(image: &[u8]) -> bool
-    requires { length image.now ≡ image_length }
+fn is_code_right(image: &Image) -> bool
     ensures { result ≡ is_code_right image.now }
 {
     let count = image[BODY_LENGTH];
@@ -63,13 +61,12 @@ fn is_code_right(image: &[u8]) -> bool
 }
 
 // What becomes of the message: its code is asked first, then its number.
-pub fn status_of(image: &[u8]) -> CommandStatus
-    requires { length image.now ≡ image_length }
+pub fn status_of(image: &Image) -> CommandStatus
     ensures { result ≡ status_of image.now }
 {
     let number = bits_words::word2(image, COMMAND_NUMBER);
     if is_code_right(image) {
-        return CommandStatus::of(number);
+        return CommandStatus::from(number);
     }
     CommandStatus::WrongCode
 }

@@ -4,12 +4,13 @@
 ghost use Rattle.std.specs.Prelude.{◌≡◌, true, ◌+◌, ◌≤◌, length, set};
 ghost use Rattle.bits.specs.Loop.{each};
 ghost use Rattle.model.specs.Commands.{sum_of, body_limit, reply_byte, with_reply_header, replied_image};
-ghost use Rattle.model.specs.Map.{image_length, body_address, message_body};
+ghost use Rattle.model.specs.Map.{body_address, message_body};
 ghost use Rattle.model.specs.declared.command.Command.TheVariants.{QueryStatus, ModuleFeatures, FirmwareInfo};
 ghost use Rattle.model.specs.declared.command.CommandStatus.TheVariants.{Success};
 
 use commands_messages::MESSAGE_BODY;
 use model::command::{Command, CommandStatus};
+use model::image::Image;
 
 // Lower 39, 40: the firmware's version.
 const FIRMWARE_MAJOR: usize = 39;
@@ -76,16 +77,13 @@ fn reply_sum(command: Command, count: u8, major: u8, minor: u8) -> u16
     requires { count ≤ body_limit }
     ensures { result ≡ sum_of count (λ k. reply_byte major minor command (body_address + k)) }
 {
-    let mut total = 0u16;
-    for k in 0..count {
-        total = total + (reply_byte(command, BODY_ADDRESS + k, major, minor) as u16);
-    }
-    total
+    (0..count)
+        .map(|k| u16::from(reply_byte(command, BODY_ADDRESS + k, major, minor)))
+        .sum()
 }
 
 // 134 and 135.
-fn put_reply_header(image: &mut [u8], count: u8, code: u8)
-    requires { length image.old ≡ image_length }
+fn put_reply_header(image: &mut Image, count: u8, code: u8)
     ensures { image.new ≡ with_reply_header count code image.old }
 {
     image[REPLY_LENGTH] = count;
@@ -93,8 +91,8 @@ fn put_reply_header(image: &mut [u8], count: u8, code: u8)
 }
 
 // A reply's bytes from 136 on; what lies past them stays.
-fn put_reply_body(image: &mut [u8], command: Command, count: u8, major: u8, minor: u8)
-    requires { (length image.old ≡ image_length) × (count ≤ body_limit) }
+fn put_reply_body(image: &mut Image, command: Command, count: u8, major: u8, minor: u8)
+    requires { count ≤ body_limit }
     ensures { image.new ≡ each (λ k. true) (λ k y. set y (message_body + k) (reply_byte major minor command (body_address + k))) count image.old }
 {
     for k in 0..count {
@@ -103,8 +101,7 @@ fn put_reply_body(image: &mut [u8], command: Command, count: u8, major: u8, mino
 }
 
 // A command's reply: its header, then its body.
-fn put_reply(image: &mut [u8], command: Command)
-    requires { length image.old ≡ image_length }
+fn put_reply(image: &mut Image, command: Command)
     ensures { image.new ≡ replied_image (Success command) image.old }
 {
     let major = image[FIRMWARE_MAJOR];
@@ -119,8 +116,7 @@ fn put_reply(image: &mut [u8], command: Command)
 }
 
 // The reply to a message: without one, length and code are 0.
-pub fn reply(image: &mut [u8], status: CommandStatus)
-    requires { length image.old ≡ image_length }
+pub fn reply(image: &mut Image, status: CommandStatus)
     ensures { image.new ≡ replied_image status image.old }
 {
     match status {

@@ -2,10 +2,10 @@
 use mathlib.Core.Path.{refl, sym, ◌∙◌}
 use mathlib.Core.List.{List}
 use Prim.Native.Nat.{ℕ}
+use Rattle.std.proofs.Common.{Option}
 use Rattle.contracts.specs.Texts.{answer_for, left_in, GivesAs, SameText}
-use Rattle.contracts.specs.declared.Replayed.{Replayed}
 
-module _ {A : Type 0} (shown : Replayed → A) (room : ℕ) (text before : List ℕ) where
+module _ {A : Type 0} (shown : Option ℕ → A) (room : ℕ) (text before : List ℕ) where
   -- whatever meets the contract is the same in answer and in every buffer byte
   pub one-text : (r r' : A) (buffer buffer' : List ℕ)
       → GivesAs shown room text before buffer r → GivesAs shown room text before buffer' r' → SameText r buffer r' buffer'

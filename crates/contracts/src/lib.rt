@@ -24,10 +24,3 @@ pub fn reply(answer: Answer, w: Working) -> Returned
         working: w,
     }
 }
-
-// The answer to a call that prints into a lent buffer: that the buffer is too short, or how many bytes were printed.
-#[derive(Clone, Copy)]
-pub enum Replayed {
-    ShortBuffer,
-    Printed(usize),
-}

@@ -1,18 +1,21 @@
 -- The refusals of start and of a strange state, from the code's tests. Assumes nothing.
 use mathlib.Core.Path.{◌≡◌, refl, sym, ◌∙◌}
-use mathlib.Core.Bool.{Bool, true, false}
+use mathlib.Core.Bool.{Bool, true, false, not}
 use mathlib.Core.List.{[], ◌∷◌}
 use Prim.Native.Nat.{ℕ, ◌≤◌, ◌<◌}
 use lib.Dec.{ltb}
 use lib.ListN.{length}
-use borrow.Author.Tests.{eq-eqb, ne_eqb, lt-ltb, le-ltb, ltb-false}
+use borrow.Author.Tests.{lt-ltb, le-ltb, ltb-false}
 use Rattle.bits.specs.Choice.{pick}
 use Rattle.bits.proofs.Tests.{clash, pick_true, pick-false}
-use Rattle.model.specs.Answers.{number, is_done}
+use Rattle.model.specs.Answers.{is_done}
 use Rattle.model.specs.Map.{Image, image_length}
 use Rattle.model.specs.Refusals.{refuse, first_of, is_flat, image_refusals, start_refusals}
 use Rattle.model.specs.declared.answer.Answer.{Answer}
 use Rattle.model.specs.declared.answer.Answer.TheVariants.{Done, WrongLength, FlatMemory, BackToFront, Unsound, ShortBuffer}
+use denote.Enum.Bare.{sameb}
+use Rattle.model.specs.contracts.answer.Answer.{the_type}
+use Rattle.model.proofs.States.{not_done, is_done_lem}
 use Rattle.model.proofs.Refused.{first_here, first_next}
 use Rattle.start_image.proofs.Refusing.{has-length, other_length_lem}
 use Rattle.packing.specs.Packing.{state_length}
@@ -37,7 +40,7 @@ three_done false true c d e = absurd (clash e refl)
 three_done false false true d e = absurd (clash e refl)
 three_done false false false d e = refl
 
-module _ (x : Image) (room : ℕ) (a : Answer) (n : ℕ) (answer : a ≡ first_of (start_refusals x)) (numbered : n ≡ number a) where
+module _ (x : Image) (room : ℕ) (a : Answer) (t : Bool) (answer : a ≡ first_of (start_refusals x)) (told : t ≡ not (sameb the_type a Done)) where
   refused : is_done (first_of (start_refusals x)) ≡ false → first_of (door_start_refusals x room) ≡ first_of (start_refusals x)
   unfolding door_start_refusals start_refusals image_refusals
   refused d = three-refused _ _ _ _ d
@@ -46,19 +49,14 @@ module _ (x : Image) (room : ℕ) (a : Answer) (n : ℕ) (answer : a ≡ first_o
   unfolding door_start_refusals start_refusals image_refusals
   passed d = three_done _ _ _ _ d
 
-  is_done_lem : n ≡ 0 → is_done (first_of (start_refusals x)) ≡ true
-  unfolding is_done
-  is_done_lem h = rw (← answer, ← numbered) (eq-eqb n 0 h)
+  pub door_refused : t ≡ true → a ≡ first_of (door_start_refusals x room)
+  door_refused h = answer ∙ sym (refused (not_done _ _ _ answer told h))
 
-  pub door_refused : (n ≡ 0 → ⊥) → a ≡ first_of (door_start_refusals x room)
-  unfolding is_done
-  door_refused h = answer ∙ sym (refused (rw (← answer, ← numbered) (ne_eqb n 0 h)))
+  pub door_short : t ≡ false → room < state_length → ShortBuffer ≡ first_of (door_start_refusals x room)
+  door_short h l = sym (passed (is_done_lem _ _ _ answer told h) ∙ pick_true _ _ (lt-ltb room state_length l))
 
-  pub door_short : n ≡ 0 → room < state_length → ShortBuffer ≡ first_of (door_start_refusals x room)
-  door_short h l = sym (passed (is_done_lem h) ∙ pick_true _ _ (lt-ltb room state_length l))
-
-  pub door_done : n ≡ 0 → state_length ≤ room → Done ≡ first_of (door_start_refusals x room)
-  door_done h l = sym (passed (is_done_lem h) ∙ pick-false _ _ (le-ltb room state_length l))
+  pub door_done : t ≡ false → state_length ≤ room → Done ≡ first_of (door_start_refusals x room)
+  door_done h l = sym (passed (is_done_lem _ _ _ answer told h) ∙ pick-false _ _ (le-ltb room state_length l))
 
 -- what start takes has room for a working state
 four_done : (a b c d : Bool) → is_done (first_of (refuse WrongLength a ∷ refuse FlatMemory b ∷ refuse BackToFront c ∷ refuse ShortBuffer d ∷ [])) ≡ true → d ≡ false

@@ -12,22 +12,21 @@ use model::answer::Answer;
 use packing::STATE_LENGTH;
 
 // The answer's number, and the lanes to be commissioned in the byte above it.
+#[tactic(auto, unfolding(crate::specs::Door::returned_for))]
 pub fn answered(answer: Answer, mask: u8) -> u32
     ensures { result ≡ returned_for answer mask }
 {
-    let number = answer.number();
-    (mask as u32) * 256 + (number as u32)
+    (mask as u32) * 256 + u8::from(answer) as u32
 }
 
 // The working state that a call handed back laid over the state, and its answer and mask as one number.
+#[tactic(auto, using(packing::proofs::States::packed_front))]
 pub fn hand_back(state: &mut [u8], left: Returned) -> u32
     requires { state_length ≤ length state.old }
     ensures { (result ≡ returned_for left.answer left.mask) × (state.new ≡ laid_over (packed left.working) state.old) }
 {
-    let working = left.working;
-    let answer = left.answer;
-    packing_state::pack(state, working);
-    answered(answer, left.mask)
+    packing_state::pack(state.first_chunk_mut().unwrap(), left.working);
+    answered(left.answer, left.mask)
 }
 
 // What start has against an image and the room for a working state, or that it takes them.
@@ -35,7 +34,7 @@ pub fn start_refusal(image: &[u8], room: usize) -> Answer
     ensures { result ≡ first_of (door_start_refusals image.now room) }
 {
     let answer = start_image::refusal(image);
-    if answer.number() != 0 {
+    if answer != Answer::Done {
         return answer;
     }
     if room < STATE_LENGTH {
@@ -48,9 +47,9 @@ pub fn start_refusal(image: &[u8], room: usize) -> Answer
 pub fn strange_refusal(image: &[u8]) -> Answer
     ensures { result ≡ first_of (strange_refusals image.now) }
 {
-    if image.len() != map::IMAGE_LENGTH {
+    let Some(image) = image.as_array() else {
         return Answer::WrongLength;
-    }
+    };
     if start_image::is_flat(image) {
         return Answer::FlatMemory;
     }

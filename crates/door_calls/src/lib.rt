@@ -4,6 +4,7 @@
 ghost use Rattle.std.specs.Prelude.{[]};
 ghost use Rattle.door_answers.specs.Door.{door_start, door_outcome, IsLeft};
 
+use model::answer::Answer;
 use model::event::Event;
 
 // Start with an image and a buffer for the working state.
@@ -11,7 +12,7 @@ pub fn start(image: &mut [u8], state: &mut [u8]) -> u32
     ensures { IsLeft (door_start image.old state.old) result image.new state.new [] }
 {
     let answer = door_answers::start_refusal(image, state.len());
-    if answer.number() != 0 {
+    if answer != Answer::Done {
         return door_answers::answered(answer, 0);
     }
     let left = calls::start(image);

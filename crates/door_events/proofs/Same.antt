@@ -6,6 +6,7 @@ use Prim.Native.Nat.{ℕ, ◌+◌, ◌≤◌, ◌<◌}
 use native.Mathlib.Omega.{arith}
 use lib.Dec.{ltb}
 use lib.ListN.{length, take}
+use lib.Seq.{take-length}
 use borrow.Author.Tests.{ltb-true, ltb-false, lt-ltb}
 use Rattle.bits.specs.Choice.{pick}
 use Rattle.bits.proofs.Tests.{split, pick_true, pick-false, either_i_l, either_i_r}
@@ -20,7 +21,7 @@ use Rattle.model.specs.declared.answer.Answer.TheVariants.{BadAccess}
 use Rattle.model.specs.declared.event.Call.TheVariants.{Write}
 use Rattle.model.proofs.Refused.{first_here}
 use Rattle.door_events.specs.Writes.{write_of, held_count, held_bytes, held_write}
-use Rattle.door_events.proofs.Held.{front, whole}
+use Rattle.door_events.proofs.Held.{front}
 
 count_over : (n : ℕ) → ltb write_limit n ≡ true → held_count n ≡ write_limit + 1
 unfolding held_count
@@ -51,7 +52,7 @@ module _ (s : State) (room address : ℕ) where
   same_step bytes = split (ltb write_limit (length bytes))
       (λ t. too_many_lem (held_count (length bytes)) (held_bytes bytes) (rw (count_over (length bytes) t) (omega arith)) ∙ sym (too_many_lem (length bytes) bytes (ltb-true _ _ t)))
       (λ t. ap (λ n. step early room s (event (Write address n) (held_bytes bytes))) (count-within (length bytes) t)
-      ∙ within (length bytes) bytes (held_bytes bytes) (held-front bytes (ltb-false _ _ t) ∙ sym (whole bytes)))
+      ∙ within (length bytes) bytes (held_bytes bytes) (held-front bytes (ltb-false _ _ t) ∙ sym (take-length bytes)))
 
 -- so every call with it leaves the same
 pub same_write : (s : State) (address : ℕ) (bytes buffer : List ℕ) → call_outcome s buffer (held_write address bytes) ≡ call_outcome s buffer (write_of address bytes)

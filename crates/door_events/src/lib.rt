@@ -1,43 +1,28 @@
 // The events that firmware's arguments ask for, where they differ from those of the registers: a write's bytes are lent, and the line is a number.
 #![tactic(auto)]
 
-ghost use Rattle.std.specs.Prelude.{◌≡◌, not, eqb, get_or};
+ghost use Rattle.std.specs.Prelude.{◌≡◌, not, eqb};
 ghost use Rattle.model.specs.declared.event.Call.TheVariants.{Line};
 ghost use Rattle.door_events.specs.Writes.{held_count, held_bytes, held_write};
 
-use model::event::Event;
-
-// The most bytes that a write carries.
-const WRITE_LIMIT: usize = 8;
+use access_limits::WRITE_LIMIT;
+use model::event::{Call, Event};
 
 // The count of a write of n bytes: what is above the limit stays above it.
+#[tactic(auto, unfolding(crate::specs::Writes::held_count, bits::specs::Choice::pick))]
 fn held_count(n: usize) -> u8
     ensures { result ≡ held_count n }
 {
-    if WRITE_LIMIT < n {
-        return 9;
-    }
-    n as u8
-}
-
-// A lent byte, and 0 behind the last one.
-fn byte_at(bytes: &[u8], k: usize) -> u8
-    ensures { result ≡ get_or bytes.now k 0 }
-{
-    if k < bytes.len() {
-        return bytes[k];
-    }
-    0
+    n.min(WRITE_LIMIT + 1) as u8
 }
 
 // The lent bytes, as many as a write can carry, and 0 where there are fewer.
-fn held_bytes(bytes: &[u8]) -> [u8; 8]
+fn held_bytes(bytes: &[u8]) -> [u8; WRITE_LIMIT]
     ensures { result ≡ held_bytes bytes.now }
 {
-    let mut held = [0u8; 8];
-    for k in 0..WRITE_LIMIT {
-        held[k] = byte_at(bytes, k);
-    }
+    let mut held = [0; WRITE_LIMIT];
+    let n = bytes.len().min(WRITE_LIMIT);
+    held[..n].copy_from_slice(&bytes[..n]);
     held
 }
 
@@ -45,13 +30,18 @@ fn held_bytes(bytes: &[u8]) -> [u8; 8]
 pub fn write(address: u8, bytes: &[u8]) -> Event
     ensures { result ≡ held_write address bytes.now }
 {
-    let count = held_count(bytes.len());
-    asked_accesses::write(address, count, held_bytes(bytes))
+    Event {
+        call: Call::Write {
+            address,
+            count: held_count(bytes.len()),
+        },
+        bytes: held_bytes(bytes),
+    }
 }
 
 // The low-power line is set: off by 0, on by any other number.
 pub fn set_line(on: u8) -> Event
     ensures { result.call ≡ Line (not (eqb on 0)) }
 {
-    asked_power::set_line(on != 0)
+    Event::from(Call::Line { on: on != 0 })
 }

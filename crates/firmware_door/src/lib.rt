@@ -7,6 +7,8 @@ ghost use Rattle.contracts.specs.Asked.{asked};
 ghost use Rattle.door_events.specs.Writes.{write_of};
 ghost use Rattle.door_answers.specs.Door.{door_start, door_outcome, IsLeft};
 
+use model::event::{Call, Event};
+
 // Start with an image: what stays of it, and an idle working state in the front of the state's buffer.
 #[unsafe(no_mangle)]
 pub extern "C" fn registers_start(image: &mut [u8], state: &mut [u8]) -> u32
@@ -39,7 +41,12 @@ pub extern "C" fn registers_read(
 ) -> u32
     ensures { IsLeft (door_outcome image.old state.old buffer.old (asked (Read address count))) result image.new state.new buffer.new }
 {
-    door_calls::call(image, state, asked_accesses::read(address, count), buffer)
+    door_calls::call(
+        image,
+        state,
+        Event::from(Call::Read { address, count }),
+        buffer,
+    )
 }
 
 // A work step on a lane.
@@ -47,7 +54,7 @@ pub extern "C" fn registers_read(
 pub extern "C" fn registers_work(image: &mut [u8], state: &mut [u8], lane: u8) -> u32
     ensures { IsLeft (door_outcome image.old state.old [] (asked (Work lane))) result image.new state.new [] }
 {
-    door_calls::without_buffer(image, state, asked_lanes::work(lane))
+    door_calls::without_buffer(image, state, Event::from(Call::Work { lane }))
 }
 
 // A hardware event on the path of a lane.
@@ -55,7 +62,7 @@ pub extern "C" fn registers_work(image: &mut [u8], state: &mut [u8], lane: u8) -
 pub extern "C" fn registers_hardware(image: &mut [u8], state: &mut [u8], lane: u8) -> u32
     ensures { IsLeft (door_outcome image.old state.old [] (asked (Hardware lane))) result image.new state.new [] }
 {
-    door_calls::without_buffer(image, state, asked_lanes::hardware(lane))
+    door_calls::without_buffer(image, state, Event::from(Call::Hardware { lane }))
 }
 
 // A condition that comes once, and sets bits of a flag byte.
@@ -63,7 +70,7 @@ pub extern "C" fn registers_hardware(image: &mut [u8], state: &mut [u8], lane: u
 pub extern "C" fn registers_condition(image: &mut [u8], state: &mut [u8], flag: u8, mask: u8) -> u32
     ensures { IsLeft (door_outcome image.old state.old [] (asked (Condition flag mask))) result image.new state.new [] }
 {
-    door_calls::without_buffer(image, state, asked_flags::condition(flag, mask))
+    door_calls::without_buffer(image, state, Event::from(Call::Condition { flag, mask }))
 }
 
 // A condition that lasts: it begins on the lanes of one mask and ends on those of the other.
@@ -77,7 +84,7 @@ pub extern "C" fn registers_lasting(
 ) -> u32
     ensures { IsLeft (door_outcome image.old state.old [] (asked (Lasting flag on off))) result image.new state.new [] }
 {
-    door_calls::without_buffer(image, state, asked_flags::lasting(flag, on, off))
+    door_calls::without_buffer(image, state, Event::from(Call::Lasting { flag, on, off }))
 }
 
 // A sample of a lane's received power.
@@ -85,7 +92,7 @@ pub extern "C" fn registers_lasting(
 pub extern "C" fn registers_sample(image: &mut [u8], state: &mut [u8], lane: u8, power: u16) -> u32
     ensures { IsLeft (door_outcome image.old state.old [] (asked (Sample lane power))) result image.new state.new [] }
 {
-    door_calls::without_buffer(image, state, asked_flags::sample(lane, power))
+    door_calls::without_buffer(image, state, Event::from(Call::Sample { lane, power }))
 }
 
 // The module event: the module moves one state on.
@@ -93,7 +100,7 @@ pub extern "C" fn registers_sample(image: &mut [u8], state: &mut [u8], lane: u8,
 pub extern "C" fn registers_move_module(image: &mut [u8], state: &mut [u8]) -> u32
     ensures { IsLeft (door_outcome image.old state.old [] (asked Module)) result image.new state.new [] }
 {
-    door_calls::without_buffer(image, state, asked_power::move_module())
+    door_calls::without_buffer(image, state, Event::from(Call::Module))
 }
 
 // The low-power line is set: off by 0, on by any other number.

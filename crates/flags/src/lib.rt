@@ -3,9 +3,10 @@
 
 ghost use Rattle.std.specs.Prelude.{◌≡◌, ◌+◌, ◌≤◌, ◌<◌, length};
 ghost use Rattle.model.specs.Flags.{is_condition_flag, condition_image, power, raised_image};
-ghost use Rattle.model.specs.Map.{image_length};
 ghost use Rattle.bits.specs.Sets.{lane_count};
 ghost use Rattle.flags.specs.Crossing.{crossing, IsSampled};
+
+use model::image::Image;
 
 // Page 11h: the flags that a sample may raise, and where samples are stored.
 pub const HIGH_ALARM_FLAG: u8 = 149;
@@ -27,16 +28,16 @@ pub fn is_condition_flag(flag: u8) -> bool
 }
 
 // A condition sets the mask's bits of its flag byte.
-pub fn condition(image: &mut [u8], flag: u8, mask: u8)
-    requires { (length image.old ≡ image_length) × (128 ≤ flag) }
+pub fn condition(image: &mut Image, flag: u8, mask: u8)
+    requires { 128 ≤ flag }
     ensures { image.new ≡ condition_image flag mask image.old }
 {
     bits_together::set_bits(image, map::on(map::PAGE_11, flag), mask)
 }
 
 // A lane's bit of a flag byte, set where the test holds.
-fn raise(image: &mut [u8], test: bool, flag: u8, lane: u8)
-    requires { (length image.old ≡ image_length) × (128 ≤ flag) × (lane < lane_count) }
+fn raise(image: &mut Image, test: bool, flag: u8, lane: u8)
+    requires { (128 ≤ flag) × (lane < lane_count) }
     ensures { image.new ≡ raised_image test flag lane image.old }
 {
     bits_together::set_bits(
@@ -64,8 +65,7 @@ pub struct Crossing {
 }
 
 // A power compared with the four limits.
-fn compare(image: &[u8], power: u16) -> Crossing
-    requires { length image.now ≡ image_length }
+fn compare(image: &Image, power: u16) -> Crossing
     ensures { result ≡ crossing image.now power }
 {
     let high_alarm = limit(image, map::HIGH_ALARM);
@@ -81,8 +81,8 @@ fn compare(image: &[u8], power: u16) -> Crossing
 }
 
 // A sample of received power: stored, and the flags of the limits raised that it lies beyond.
-pub fn sample(image: &mut [u8], lane: u8, power: u16) -> Crossing
-    requires { (length image.old ≡ image_length) × (lane < lane_count) }
+pub fn sample(image: &mut Image, lane: u8, power: u16) -> Crossing
+    requires { lane < lane_count }
     ensures { IsSampled lane power image.old image.new result }
 {
     let beyond = compare(image, power);

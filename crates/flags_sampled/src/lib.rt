@@ -1,15 +1,15 @@
 // A sample of received power: the flags that it raises, and what is on after it.
 #![tactic(auto)]
 
-ghost use Rattle.std.specs.Prelude.{◌≡◌, ◌<◌, length};
+ghost use Rattle.std.specs.Prelude.{◌≡◌, ◌<◌};
 ghost use Rattle.bits.specs.Sets.{lane_count};
-ghost use Rattle.model.specs.Map.{image_length};
 ghost use Rattle.model.specs.Flags.{sampled_state};
 ghost use Rattle.model.specs.State.{state_with};
 ghost use Rattle.contracts.specs.Forms.{IsState};
 ghost use Rattle.flags_sampled.specs.Beyond.{beyond_on};
 
 use flags::Crossing;
+use model::image::Image;
 use model::lane::Working;
 
 // The flags of received power among those that can last, counted from 0.
@@ -32,8 +32,8 @@ fn after_sample(on: u16, beyond: Crossing) -> u16
 }
 
 // A sample of received power: stored and compared, and its lane's four flags are on where it says so.
-pub fn sample(image: &mut [u8], w: Working, lane: u8, power: u16) -> Working
-    requires { (length image.old ≡ image_length) × (lane < lane_count) }
+pub fn sample(image: &mut Image, w: Working, lane: u8, power: u16) -> Working
+    requires { lane < lane_count }
     ensures { IsState (sampled_state lane power (state_with image.old w)) image.new result }
 {
     let beyond = flags::sample(image, lane, power);

@@ -1,24 +1,21 @@
 // What is on shows again after a read that cleared its flag.
 #![tactic(auto)]
 
-ghost use Rattle.std.specs.Prelude.{◌≡◌, not, ◌+◌, ◌≤◌, ◌<◌, eqb, length};
+ghost use Rattle.std.specs.Prelude.{◌≡◌, not, ◌+◌, ◌≤◌, ◌<◌, eqb};
 ghost use Rattle.bits.specs.Loop.{any_below};
 ghost use Rattle.bits.specs.Sets.{lane_count};
 ghost use Rattle.model.specs.Map.{image_length, lasting_count};
 ghost use Rattle.model.specs.Records.{on_at, on_lanes};
 ghost use Rattle.model.specs.Flags.{is_read, shown_again_image};
 
+use model::image::Image;
 use model::lane::{LaneRecord, Working};
 
 // Whether any flag is on.
 fn is_any_on(w: Working) -> bool
     ensures { result ≡ any_below lane_count (λ l. not (eqb (on_at w l) 0)) }
 {
-    let mut any = false;
-    for lane in 0..LaneRecord::COUNT {
-        any = any | (records::on_at(w, lane) != 0);
-    }
-    any
+    w.lanes.iter().any(|record| record.on != 0)
 }
 
 // The lanes on which a flag is on.
@@ -43,8 +40,8 @@ fn is_read(i: usize, n: usize, at: usize) -> bool
 }
 
 // The flags that can last among n bytes read from an index on, each with what is on.
-fn show_bytes(image: &mut [u8], w: Working, i: usize, n: usize)
-    requires { (length image.old ≡ image_length) × (i + n ≤ image_length) }
+fn show_bytes(image: &mut Image, w: Working, i: usize, n: usize)
+    requires { i + n ≤ image_length }
     ensures { image.new ≡ shown_again_image w i n image.old }
 {
     for flag in 0..map::LASTING_COUNT {
@@ -56,8 +53,8 @@ fn show_bytes(image: &mut [u8], w: Working, i: usize, n: usize)
 }
 
 // Of n bytes read from an index on, the flags that are on show again. The records are looked at only where a flag byte was read.
-pub fn show_again(image: &mut [u8], w: Working, i: usize, n: usize)
-    requires { (length image.old ≡ image_length) × (i + n ≤ image_length) }
+pub fn show_again(image: &mut Image, w: Working, i: usize, n: usize)
+    requires { i + n ≤ image_length }
     ensures { image.new ≡ shown_again_image w i n image.old }
 {
     if map::meets_flags(i, n) {

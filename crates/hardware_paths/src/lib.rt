@@ -1,11 +1,13 @@
 // The path of a used lane, found in one number: the eight DPConfig bytes of the active set, a byte a lane.
 #![tactic(auto)]
 
-ghost use Rattle.std.specs.Prelude.{◌≡◌, true, ◌<◌, length};
+ghost use Rattle.std.specs.Prelude.{◌≡◌, true, ◌<◌};
 ghost use Rattle.bits.specs.Sets.{lane_count};
-ghost use Rattle.model.specs.Map.{image_length, active_set};
+ghost use Rattle.model.specs.Map.{active_set};
 ghost use Rattle.model.specs.View.{of, settings_of, is_used, path_of};
 ghost use Rattle.hardware_paths.specs.Bytewise.{bytewise, lowest_bits};
+
+use model::image::Image;
 
 // The lowest bit of every byte, and the bits of a DataPathID in its byte.
 const LOWEST: u64 = 0x0101010101010101;
@@ -23,8 +25,8 @@ fn gather(lanes: u64) -> u8
 }
 
 // The lanes of a used lane's path: those that have an AppSel, and in whose DataPathID no bit differs from the lane's.
-pub fn path_of(image: &[u8], lane: u8) -> u8
-    requires { (length image.now ≡ image_length) × (lane < lane_count) × (is_used (of (settings_of active_set image.now) lane) ≡ true) }
+pub fn path_of(image: &Image, lane: u8) -> u8
+    requires { (lane < lane_count) × (is_used (of (settings_of active_set image.now) lane) ≡ true) }
     ensures { result ≡ path_of (settings_of active_set image.now) lane }
 {
     let all = bits_low::word8(image, map::ACTIVE_SET);

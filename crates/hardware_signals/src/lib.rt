@@ -4,8 +4,8 @@
 ghost use Rattle.std.specs.Prelude.{◌≡◌, ◌+◌, ◌≤◌, length};
 ghost use Rattle.bits.specs.Lane.{lane_field};
 ghost use Rattle.model.specs.Hardware.{some_bit, to_deinit, to_reinit, to_deactivate, signals_of};
-ghost use Rattle.model.specs.Map.{image_length};
 
+use model::image::Image;
 use model::path::Signals;
 
 // Whether a lane of the set has its bit of a byte 1.
@@ -17,24 +17,21 @@ fn some_bit(image: &[u8], at: usize, set: u8) -> bool
 }
 
 // S: the module holds every path down, or a DPDeinit bit of the path is 1.
-fn to_deinit(image: &[u8], down: bool, path: u8) -> bool
-    requires { length image.now ≡ image_length }
+fn to_deinit(image: &Image, down: bool, path: u8) -> bool
     ensures { result ≡ to_deinit down image.now path }
 {
     down | some_bit(image, map::DEINIT, path)
 }
 
 // R: S, or a DPInitPending bit of the path is 1.
-fn to_reinit(image: &[u8], down: bool, path: u8) -> bool
-    requires { length image.now ≡ image_length }
+fn to_reinit(image: &Image, down: bool, path: u8) -> bool
     ensures { result ≡ to_reinit down image.now path }
 {
     to_deinit(image, down, path) | some_bit(image, map::PENDING, path)
 }
 
 // D: R, or an OutputDisableTx or OutputSquelchForceTx bit of the path is 1.
-fn to_deactivate(image: &[u8], down: bool, path: u8) -> bool
-    requires { length image.now ≡ image_length }
+fn to_deactivate(image: &Image, down: bool, path: u8) -> bool
     ensures { result ≡ to_deactivate down image.now path }
 {
     let disabled = some_bit(image, map::OUTPUT_DISABLE, path);
@@ -43,8 +40,7 @@ fn to_deactivate(image: &[u8], down: bool, path: u8) -> bool
 }
 
 // The signals of a path, in a module that holds every path down or does not.
-pub fn signals_of(image: &[u8], down: bool, path: u8) -> Signals
-    requires { length image.now ≡ image_length }
+pub fn signals_of(image: &Image, down: bool, path: u8) -> Signals
     ensures { result ≡ signals_of down image.now path }
 {
     let deinit = to_deinit(image, down, path);

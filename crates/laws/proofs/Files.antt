@@ -1,5 +1,6 @@
 -- A header and a record are refused exactly when they have a fault; a night file, with any limit of records, is answered 9 exactly when it has
 -- a fault, and else what start answers to its image (01 "The night file"). Assumes nothing.
+use Rattle.std.proofs.Common.{Err, Ok, Result}
 use mathlib.Core.Path.{◌≡◌, refl, ap, subst, ◌∙◌}
 use mathlib.Core.Bool.{Bool, true, false, not}
 use mathlib.Core.List.{List, [], ◌++◌}
@@ -20,8 +21,7 @@ use Rattle.model.specs.Refusals.{first_of, is_flat, is_back_to_front, wrong_leng
 use Rattle.model.specs.Outcome.{start_outcome_by, start_outcome}
 use Rattle.model.specs.File.{Form, Edition, forms_with, once_call, lasting_call, line_bytes, power_forms, later_editions, edition_among, edition_of, records_offset, record_length, record_count, is_header, is_whole_length, carried_image, image_in, record_in, kind_of, write_kind, read_kind, work_kind, hardware_kind, condition_kind, sample_kind, module_kind, line_kind, data_limit, written_bytes, used_bytes, is_record, is_well_formed, file_check_by, file_check_up_to}
 use Rattle.model.specs.declared.answer.Answer.TheVariants.{WrongLength, FlatMemory, Malformed, BackToFront}
-use Rattle.model.specs.declared.file.FileCheck.{FileCheck}
-use Rattle.model.specs.declared.file.FileCheck.TheVariants.{Refused, Good}
+use Rattle.model.specs.declared.answer.Answer.{Answer}
 use Rattle.model.specs.declared.event.Call.{Call}
 use Rattle.model.proofs.Editions.{first, row, among-has, length_laid_out}
 use Rattle.laws.specs.Files.{NotListed, condition_bytes, Unused, past_count, past_data, past_read, past_work, past_hardware, past_condition, past_sample, past_module, past_line, RecordFault, no_such_kind, unused_byte, neither_on_nor_off, HeaderFault, first_letter, second_letter, other_edition, not_zero, too_many, image_elsewhere, records_elsewhere, Fault, in_header, other_length, in_record, Found, malformed, flat, back_to_front, good}
@@ -269,9 +269,9 @@ module _ (limit : ℕ) (header : List ℕ) where
 -- ---- a whole file
 
 -- the number of what is found; 0 where the file is good
-abbrev number_in : FileCheck → ℕ
-number_in (Refused a) = number a
-number_in (Good n) = 0
+abbrev number_in : Result ℕ Answer → ℕ
+number_in (Err a) = number a
+number_in (Ok n) = 0
 
 module _ (limit : ℕ) (file : List ℕ) where
   -- its image has the right length
@@ -307,15 +307,15 @@ module _ (limit : ℕ) (file : List ℕ) where
     no_fault (in_record k b f) = clash (its_record k b) ((record_exactly (get_or file 2 0) (record_in file k)).1 f)
 
     -- what start asks of its image is what is found
-    found_flat : is_flat (image_in file) ≡ true → file_check_up_to limit file ≡ Refused FlatMemory
+    found_flat : is_flat (image_in file) ≡ true → file_check_up_to limit file ≡ Err FlatMemory
     unfolding file_check_up_to file_check_by start_refusals image_refusals first_of is_done pick
     found_flat e = rw (formed, its-image, e)
 
-    found_turned : is_flat (image_in file) ≡ false → is_back_to_front (image_in file) ≡ true → file_check_up_to limit file ≡ Refused BackToFront
+    found_turned : is_flat (image_in file) ≡ false → is_back_to_front (image_in file) ≡ true → file_check_up_to limit file ≡ Err BackToFront
     unfolding file_check_up_to file_check_by start_refusals image_refusals first_of is_done pick
     found_turned e f = rw (formed, its-image, e, f)
 
-    found_good : is_flat (image_in file) ≡ false → is_back_to_front (image_in file) ≡ false → file_check_up_to limit file ≡ Good (record_count file)
+    found_good : is_flat (image_in file) ≡ false → is_back_to_front (image_in file) ≡ false → file_check_up_to limit file ≡ Ok (record_count file)
     unfolding file_check_up_to file_check_by start_refusals image_refusals first_of is_done pick
     found_good e f = rw (formed, its-image, e, f)
 
@@ -325,7 +325,7 @@ module _ (limit : ℕ) (file : List ℕ) where
 
   -- ---- what is found
 
-  found_fault : is_well_formed limit file ≡ false → file_check_up_to limit file ≡ Refused Malformed
+  found_fault : is_well_formed limit file ≡ false → file_check_up_to limit file ≡ Err Malformed
   unfolding file_check_up_to pick
   found_fault e = rw e
 
@@ -341,24 +341,24 @@ module _ (limit : ℕ) (file : List ℕ) where
       (λ f. rw (found_good w e f) (good (no_fault w) e f))))
       (λ w. rw (found_fault w) (malformed (formed_exactly.0 w)))
 
-  is_found : {r : FileCheck} → Found limit file r → file_check_up_to limit file ≡ r
+  is_found : {r : Result ℕ Answer} → Found limit file r → file_check_up_to limit file ≡ r
   is_found (malformed f) = found_fault (formed_exactly.1 f)
   is_found (flat n e) = found_flat (formed_file n) e
   is_found (back_to_front n e f) = found_turned (formed_file n) e f
   is_found (good n e f) = found_good (formed_file n) e f
 
   -- the check of a file finds each result exactly when 01 says so, and no other
-  pub checked_exactly : (r : FileCheck) → (file_check_up_to limit file ≡ r) ↔ Found limit file r
+  pub checked_exactly : (r : Result ℕ Answer) → (file_check_up_to limit file ≡ r) ↔ Found limit file r
   checked_exactly r = (λ e. subst (Found limit file) e found, is_found)
 
-  found_number : {r : FileCheck} → Found limit file r → (number_in r ≡ 9 → Fault limit file) × (number_in r ≢ 1)
+  found_number : {r : Result ℕ Answer} → Found limit file r → (number_in r ≡ 9 → Fault limit file) × (number_in r ≢ 1)
   found_number (malformed f) = (λ e. f, λ e. omega arith)
   found_number (flat n h) = (λ e. absurd (omega arith), λ e. omega arith)
   found_number (back_to_front n h i) = (λ e. absurd (omega arith), λ e. omega arith)
   found_number (good n h i) = (λ e. absurd (omega arith), λ e. omega arith)
 
   -- 9 exactly where there is a fault
-  pub malformed_exactly : (file_check_up_to limit file ≡ Refused Malformed) ↔ Fault limit file
+  pub malformed_exactly : (file_check_up_to limit file ≡ Err Malformed) ↔ Fault limit file
   malformed_exactly = (λ e. (found_number found).0 (ap number_in e), λ f. is_found (malformed f))
 
   -- a file with no fault is answered as start answers to its image ..
@@ -367,5 +367,5 @@ module _ (limit : ℕ) (file : List ℕ) where
   file_as_start n = rw (formed_file n)
 
   -- .. and none with 1
-  pub never_1 : file_check_up_to limit file ≢ Refused WrongLength
+  pub never_1 : file_check_up_to limit file ≢ Err WrongLength
   never_1 e = (found_number found).1 (ap number_in e)

@@ -1,4 +1,5 @@
 -- What a file prints tells what was found of it: `bad` with a number exactly where that was its answer. Assumes nothing.
+use Rattle.std.proofs.Common.{Err, Ok, Result}
 use mathlib.Core.Path.{◌≡◌, refl, sym, ap, ◌∙◌}
 use mathlib.Core.List.{List, [], ◌∷◌}
 use mathlib.Core.Logic.{◌↔◌}
@@ -14,8 +15,6 @@ use Rattle.model.specs.Text.{ascii, newline, digit_text, decimal_up_to, decimal,
 use Rattle.model.specs.Night.{lines_from, night_of, printed_text_by, printed_up_to}
 use Rattle.model.specs.declared.answer.Answer.{Answer}
 use Rattle.model.specs.declared.answer.Answer.TheVariants.{Done, WrongLength, FlatMemory, Unsound, BadAccess, ShortBuffer, NothingOnLane, Busy, NoSuchTarget, Malformed, BackToFront}
-use Rattle.model.specs.declared.file.FileCheck.{FileCheck}
-use Rattle.model.specs.declared.file.FileCheck.TheVariants.{Refused, Good}
 use Rattle.laws.specs.Files.{Fault}
 use Rattle.laws.proofs.Files.{malformed_exactly}
 
@@ -59,14 +58,14 @@ unfolding lines_from line decimal decimal_up_to digit_text pick
 not_bad [] n e = let z : ◌≡◌ {A = ℕ} 0 0x62 = ap (λ text. get_or text 0 0) e ∙ first_of_bad n in omega arith
 not_bad (o ∷ os) n e = let z : ◌≡◌ {A = ℕ} 0x30 0x62 = ap (λ text. get_or text 0 0) e ∙ first_of_bad n in omega arith
 
-bad_back : (file : List ℕ) (r : FileCheck) (a : Answer) → printed_text_by r file ≡ bad_line (number a) → r ≡ Refused a
+bad_back : (file : List ℕ) (r : Result ℕ Answer) (a : Answer) → printed_text_by r file ≡ bad_line (number a) → r ≡ Err a
 unfolding printed_text_by
-bad_back file (Refused b) a e = ap Refused (sym (shown_back b) ∙ ap shown_number e ∙ shown_back a)
-bad_back file (Good n) a e = absurd (not_bad (night_of file) (number a) e)
+bad_back file (Err b) a e = ap Err (sym (shown_back b) ∙ ap shown_number e ∙ shown_back a)
+bad_back file (Ok n) a e = absurd (not_bad (night_of file) (number a) e)
 
 module _ (limit : ℕ) (file : List ℕ) where
   -- `bad` and a number is printed exactly where the check answers that number
-  pub printed_exactly : (a : Answer) → (printed_up_to limit file ≡ bad_line (number a)) ↔ (file_check_up_to limit file ≡ Refused a)
+  pub printed_exactly : (a : Answer) → (printed_up_to limit file ≡ bad_line (number a)) ↔ (file_check_up_to limit file ≡ Err a)
   unfolding printed_up_to printed_text_by
   printed_exactly a = (bad_back file (file_check_up_to limit file) a, λ e. ap (λ r. printed_text_by r file) e)
 

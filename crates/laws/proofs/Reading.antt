@@ -1,4 +1,5 @@
 -- How many bytes a step reads, and that a caller finds them in its buffer. Assumes nothing.
+use Rattle.std.proofs.Common.{None, Some, Option}
 use mathlib.Core.Path.{◌≡◌, refl, sym, ap}
 use mathlib.Core.Bool.{true, false}
 use mathlib.Core.List.{List, []}
@@ -21,8 +22,7 @@ use Rattle.model.specs.Outcome.{step_outcome}
 use Rattle.model.specs.declared.lane.Trigger.{Trigger}
 use Rattle.model.specs.declared.lane.Verdict.{Verdict}
 use Rattle.model.specs.declared.lane.Verdict.TheVariants.{Pass, Reject}
-use Rattle.model.specs.declared.lane.Stage.{Stage}
-use Rattle.model.specs.declared.lane.Stage.TheVariants.{Idle, InProgress}
+use Rattle.model.specs.declared.lane.Progress.{Progress}
 use Rattle.model.specs.declared.event.Call.{Call}
 use Rattle.model.specs.declared.event.Call.TheVariants.{Write, Read, Work, Hardware, Condition, Sample, Lasting, Module, Line}
 use Rattle.model.specs.declared.event.Event.{Event}
@@ -36,10 +36,10 @@ module _ (mode : Mode) (s : State) where
   by_reads (Reject code) g t = refl
   by_reads (Pass n) g t = split (ltb n lane_count) (λ e. rw (e, pick)) (λ e. rw (e, pick))
 
-  on_reads : (u : Stage) → (work_effect_on u mode s).bytes ≡ []
+  on_reads : (u : Option Progress) → (work_effect_on u mode s).bytes ≡ []
   unfolding work_effect_on
-  on_reads Idle = refl
-  on_reads (InProgress p) = by_reads p.verdict p.group p.trigger
+  on_reads None = refl
+  on_reads (Some p) = by_reads p.verdict p.group p.trigger
 
   carried_reads : (bytes : List ℕ) (c : Call) → length (event_effect mode s bytes c).bytes ≡ read_count c
   unfolding event_effect read_effect taken_bytes work_effect

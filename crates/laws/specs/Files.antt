@@ -1,13 +1,12 @@
 -- When a header, a record and a night file are malformed, fault by fault, and what is found of every file (01 "The night file").
 -- A file may count as many records as a limit says.
-use Rattle.std.specs.Prelude.{◌≡◌, true, false, List, ◌≢◌, ℕ, ◌+◌, ◌*◌, ◌≤◌, ◌<◌, ltb, length, get_or}
+use Rattle.std.specs.Prelude.{◌≡◌, true, false, List, ◌≢◌, ℕ, ◌+◌, ◌*◌, ◌≤◌, ◌<◌, ltb, length, get_or, Err, Ok, Result}
 use Rattle.bits.specs.Choice.{pick}
 use Rattle.bits.specs.Word.{word}
 use Rattle.model.specs.Refusals.{is_flat, is_back_to_front}
 use Rattle.model.specs.File.{Edition, edition_of, image_offset, records_offset, record_length, record_count, image_in, record_in, kind_of, write_kind, read_kind, work_kind, hardware_kind, condition_kind, sample_kind, module_kind, line_kind, data_start, data_limit}
 use Rattle.model.specs.declared.answer.Answer.TheVariants.{FlatMemory, Malformed, BackToFront}
-use Rattle.model.specs.declared.file.FileCheck.{FileCheck}
-use Rattle.model.specs.declared.file.FileCheck.TheVariants.{Refused, Good}
+use Rattle.model.specs.declared.answer.Answer.{Answer}
 
 -- none of an edition's kinds: write, read, work, hardware, condition, sample; from the fourth edition on the module event and the low-power line
 pub record NotListed (e : Edition) (kind : ℕ) : Type 0 where
@@ -60,8 +59,8 @@ pub data Fault (limit : ℕ) (file : List ℕ) : Type 0 where
   in_record : (k : ℕ) → k < record_count file → RecordFault (edition_of file) (record_in file k) → Fault limit file
 
 -- what is found of a file: 9 where it has a fault; else 2 and 10 as start of its image has them; else it is good
-pub data Found (limit : ℕ) (file : List ℕ) : FileCheck → Type 0 where
-  malformed : Fault limit file → Found limit file (Refused Malformed)
-  flat : (Fault limit file → ⊥) → is_flat (image_in file) ≡ true → Found limit file (Refused FlatMemory)
-  back_to_front : (Fault limit file → ⊥) → is_flat (image_in file) ≡ false → is_back_to_front (image_in file) ≡ true → Found limit file (Refused BackToFront)
-  good : (Fault limit file → ⊥) → is_flat (image_in file) ≡ false → is_back_to_front (image_in file) ≡ false → Found limit file (Good (record_count file))
+pub data Found (limit : ℕ) (file : List ℕ) : Result ℕ Answer → Type 0 where
+  malformed : Fault limit file → Found limit file (Err Malformed)
+  flat : (Fault limit file → ⊥) → is_flat (image_in file) ≡ true → Found limit file (Err FlatMemory)
+  back_to_front : (Fault limit file → ⊥) → is_flat (image_in file) ≡ false → is_back_to_front (image_in file) ≡ true → Found limit file (Err BackToFront)
+  good : (Fault limit file → ⊥) → is_flat (image_in file) ≡ false → is_back_to_front (image_in file) ≡ false → Found limit file (Ok (record_count file))

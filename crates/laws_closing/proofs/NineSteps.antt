@@ -1,5 +1,6 @@
 -- A group in progress closes after at most nine work steps on its lanes, whatever is called between them: nothing else changes their records but a reset, which
 -- drops the whole group, and each of these steps copies one lane more or closes. Assumes nothing.
+use Rattle.std.proofs.Common.{None, Some, Option}
 use mathlib.Core.Path.{◌≡◌, refl, ap, ◌∙◌}
 use mathlib.Core.Bool.{Bool, true, false}
 use mathlib.Core.List.{List, [], ◌∷◌}
@@ -29,8 +30,6 @@ use Rattle.model.specs.declared.event.Call.TheVariants.{Write, Read, Work, Hardw
 use Rattle.model.specs.declared.lane.Verdict.{Verdict}
 use Rattle.model.specs.declared.lane.Verdict.TheVariants.{Pass, Reject}
 use Rattle.model.specs.declared.lane.Progress.{Progress}
-use Rattle.model.specs.declared.lane.Stage.{Stage}
-use Rattle.model.specs.declared.lane.Stage.TheVariants.{Idle, InProgress}
 use Rattle.laws.specs.Calls.{Called, outcome_at, state_after}
 use Rattle.laws.proofs.Unchanged.{done_is}
 use Rattle.laws_sound.specs.Sound.{seen_of, Mate, Sound}
@@ -59,14 +58,14 @@ steps_left (Pass n) = suc (lane_count - n)
 -- lane l goes on in the group with at most a number of work steps left
 record GoesOn (g most l : ℕ) (s : State) : Type 0 where
   pub its : Progress
-  pub stage : stage_at s.working l ≡ InProgress its
+  pub stage : stage_at s.working l ≡ Some its
   pub group : its.group ≡ g
   pub left : steps_left its.verdict ≤ most
 
-progress_of_lem : (t : Stage) → is_in_progress t ≡ true → (q : Progress) × (t ≡ InProgress q)
+progress_of_lem : (t : Option Progress) → is_in_progress t ≡ true → (q : Progress) × (t ≡ Some q)
 unfolding is_in_progress
-progress_of_lem Idle e = absurd (clash e refl)
-progress_of_lem (InProgress q) e = (q, refl)
+progress_of_lem None e = absurd (clash e refl)
+progress_of_lem (Some q) e = (q, refl)
 
 -- a state that is not refused with 1, 2 or 3 is sound and has its length
 accepted-sound : (s : State) → first_of (entry_refusals s) ≡ Done → (is_sound s ≡ true) × (length s.image ≡ image_length)
@@ -80,7 +79,7 @@ accepted-sound s a =
 -- ---- one step
 
 module _ (room : ℕ) (s : State) (bytes : List ℕ) (a : first_of (entry_refusals s) ≡ Done)
-    (l : ℕ) (p : Progress) (h : l < lane_count) (i : stage_at s.working l ≡ InProgress p) where
+    (l : ℕ) (p : Progress) (h : l < lane_count) (i : stage_at s.working l ≡ Some p) where
   o : is_sound s ≡ true
   o = (accepted-sound s a).0
 
@@ -99,7 +98,7 @@ module _ (room : ℕ) (s : State) (bytes : List ℕ) (a : first_of (entry_refusa
 
   -- ---- a work step on a lane of another group
 
-  other_keeps : (m : ℕ) (q : Progress) (v : Verdict) → m < lane_count → stage_at s.working m ≡ InProgress q → q.verdict ≡ v → has q.group l ≡ false
+  other_keeps : (m : ℕ) (q : Progress) (v : Verdict) → m < lane_count → stage_at s.working m ≡ Some q → q.verdict ≡ v → has q.group l ≡ false
       → stage_at (step_on room s (Work m) bytes).state.working l ≡ stage_at s.working l
   other_keeps m q (Reject code) b j v n = (rejected_closes room s bytes m q b j code v o size).others l h n
   other_keeps m q (Pass k) b j v n = elim (dec_lt k lane_count) [
@@ -152,7 +151,7 @@ module _ (room : ℕ) (s : State) (bytes : List ℕ) (a : first_of (entry_refusa
   Moved : State → Type 0
   Moved z = AllIdle p.group z ⊎ ((k : ℕ) × (suc k ≤ steps_left p.verdict) × GoesOn p.group k l z)
 
-  group-moves : (m : ℕ) (q : Progress) (v : Verdict) → m < lane_count → stage_at s.working m ≡ InProgress q → q.group ≡ p.group → q.verdict ≡ v
+  group-moves : (m : ℕ) (q : Progress) (v : Verdict) → m < lane_count → stage_at s.working m ≡ Some q → q.group ≡ p.group → q.verdict ≡ v
       → p.verdict ≡ v → Moved (step_on room s (Work m) bytes).state
   unfolding Moved steps_left with_verdict
   group-moves m q (Reject code) b j g v u = inl (rw g at (rejected_closes room s bytes m q b j code v o size).idle)
@@ -274,6 +273,6 @@ module _ (g l : ℕ) (h : l < lane_count) where
 
 -- on any state that is not refused with 1, 2 or 3, a group in progress is idle after at most nine work steps on its lanes, whatever is called between them
 pub nine_steps : (s : State) (l : ℕ) (p : Progress) (cs : List Called) → first_of (entry_refusals s) ≡ Done → l < lane_count
-    → stage_at s.working l ≡ InProgress p → most_work_steps ≤ works_on p.group cs → ClosesWithin p.group most_work_steps s cs
+    → stage_at s.working l ≡ Some p → most_work_steps ≤ works_on p.group cs → ClosesWithin p.group most_work_steps s cs
 nine_steps s l p cs a h i n =
     within p.group l h cs most_work_steps s a (record { its = p; stage = i; group = refl; left = nine_left p.verdict }) n

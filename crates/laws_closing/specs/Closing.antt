@@ -1,5 +1,5 @@
 -- What it means that a group closes among public calls: the words of the theorem that it takes nine work steps at most.
-use Rattle.std.specs.Prelude.{◌≡◌, Bool, true, false, List, [], ◌∷◌, ℕ, suc, ◌+◌, ◌≤◌, ◌<◌, ltb, length, take}
+use Rattle.std.specs.Prelude.{◌≡◌, Bool, true, false, List, [], ◌∷◌, ℕ, suc, ◌+◌, ◌≤◌, ◌<◌, ltb, length, take, None, Some, Option}
 use Rattle.bits.specs.Choice.{pick, both}
 use Rattle.bits.specs.Sets.{has, lane_count}
 use Rattle.model.specs.Records.{stage_at}
@@ -7,8 +7,6 @@ use Rattle.model.specs.State.{State}
 use Rattle.model.specs.declared.event.Call.{Call}
 use Rattle.model.specs.declared.event.Call.TheVariants.{Write, Read, Work, Hardware, Condition, Sample, Lasting, Module, Line}
 use Rattle.model.specs.declared.lane.Progress.{Progress}
-use Rattle.model.specs.declared.lane.Stage.{Stage}
-use Rattle.model.specs.declared.lane.Stage.TheVariants.{Idle, InProgress}
 use Rattle.laws.specs.Calls.{Called, state_after}
 
 -- nine: one work step for each lane, and the closing one
@@ -33,9 +31,9 @@ works_on g [] = 0
 works_on g (c ∷ cs) = pick (is_work_on g c.event.call) 1 0 + works_on g cs
 
 -- a stage in progress, in the group
-pub record InGroup (g : ℕ) (stage : Stage) : Type 0 where
+pub record InGroup (g : ℕ) (stage : Option Progress) : Type 0 where
   pub its : Progress
-  pub in_progress : stage ≡ InProgress its
+  pub in_progress : stage ≡ Some its
   pub group : its.group ≡ g
 
 -- every lane of the group is in progress, in that group
@@ -44,7 +42,7 @@ AllIn g s = (m : ℕ) → m < lane_count → has g m ≡ true → InGroup g (sta
 
 -- every lane of the group is idle
 abbrev pub AllIdle : ℕ → State → Type 0
-AllIdle g s = (m : ℕ) → m < lane_count → has g m ≡ true → stage_at s.working m ≡ Idle
+AllIdle g s = (m : ℕ) → m < lane_count → has g m ≡ true → stage_at s.working m ≡ None
 
 -- the group closes, or is dropped by a reset, within a number of work steps: after some of the calls its lanes are idle, until then they are all in
 -- progress in that group, and of these calls at most so many are work steps on its lanes

@@ -1,4 +1,5 @@
 -- There are eight lane records, whatever is called. Assumes nothing.
+use Rattle.std.proofs.Common.{None, Some, Option}
 use mathlib.Core.Path.{◌≡◌}
 use mathlib.Core.List.{List, [], ◌∷◌}
 use Prim.Native.Nat.{ℕ, suc}
@@ -24,16 +25,14 @@ use Rattle.model.specs.declared.event.Event.{Event}
 use Rattle.model.specs.declared.lane.Trigger.{Trigger}
 use Rattle.model.specs.declared.lane.Verdict.{Verdict}
 use Rattle.model.specs.declared.lane.Verdict.TheVariants.{Pass, Reject}
-use Rattle.model.specs.declared.lane.Stage.{Stage}
-use Rattle.model.specs.declared.lane.Stage.TheVariants.{Idle, InProgress}
-use Rattle.model.specs.declared.lane.TriggerPlace.{TriggerPlace}
-use Rattle.model.specs.declared.lane.TriggerPlace.TheVariants.{NoTrigger, Applies}
+use Rattle.model.specs.declared.lane.Progress.{Progress}
+use Rattle.model.specs.declared.lane.Apply.{Apply}
 use Rattle.model.specs.declared.lane.Working.{Working}
 
 abbrev pub Eight : Working → Type 0
 Eight w = length w.lanes ≡ lane_count
 
-stages : (w : Working) (f : Lane → Stage) → Eight (with_stages w f)
+stages : (w : Working) (f : Lane → Option Progress) → Eight (with_stages w f)
 unfolding with_stages
 stages w f = length-tab lane_count _
 
@@ -42,10 +41,10 @@ unfolding with_ons
 ons w f = length-tab lane_count _
 
 -- ---- a write
-place_eight : (p : TriggerPlace) (i v : ℕ) (s : State) → Eight s.working → Eight (stored_by p i v s).working
+place_eight : (p : Option Apply) (i v : ℕ) (s : State) → Eight s.working → Eight (stored_by p i v s).working
 unfolding stored_by triggered_state marked_state
-place_eight NoTrigger i v s e = pick-has (λ (t : State). Eight t.working) _ (λ b. e) (λ b. e)
-place_eight (Applies a) i v s e = pick-has (λ (t : State). Eight t.working) _ (λ b. e) (λ b. stages s.working _)
+place_eight None i v s e = pick-has (λ (t : State). Eight t.working) _ (λ b. e) (λ b. e)
+place_eight (Some a) i v s e = pick-has (λ (t : State). Eight t.working) _ (λ b. e) (λ b. stages s.working _)
 
 byte_eight : (a v : ℕ) (s : State) → Eight s.working → Eight (byte_written_state a v s).working
 unfolding byte_written_state stored_state
@@ -66,10 +65,10 @@ unfolding work_effect_by closed_state closing_effect copied_state freed_working 
 verdict_eight (Reject c) mode s g t = stages s.working _
 verdict_eight (Pass n) mode s g t = pick-has (λ (c : Effect). Eight c.state.working) _ (λ b. stages s.working _) (λ b. stages s.working _)
 
-stage_eight : (r : Stage) (mode : Mode) (s : State) → Eight s.working → Eight (work_effect_on r mode s).state.working
+stage_eight : (r : Option Progress) (mode : Mode) (s : State) → Eight s.working → Eight (work_effect_on r mode s).state.working
 unfolding work_effect_on
-stage_eight Idle mode s e = e
-stage_eight (InProgress p) mode s e = verdict_eight p.verdict mode s p.group p.trigger
+stage_eight None mode s e = e
+stage_eight (Some p) mode s e = verdict_eight p.verdict mode s p.group p.trigger
 
 -- ---- any event
 effect_eight : (mode : Mode) (s : State) (bytes : List ℕ) (c : Call) → Eight s.working → Eight (event_effect mode s bytes c).state.working

@@ -1,4 +1,5 @@
 -- Two byte lists that are alike but for some bits are so after a change of both, whatever the bits are. Assumes nothing.
+use Rattle.std.proofs.Common.{None, Some, Option, ℕ}
 use mathlib.Core.Path.{◌≡◌, refl, sym, ◌∙◌}
 use mathlib.Core.Bool.{Bool, true, false}
 use mathlib.Core.List.{List}
@@ -32,8 +33,6 @@ use Rattle.model.specs.declared.command.CommandStatus.TheVariants.{Success, Unkn
 use Rattle.model.specs.declared.lane.Trigger.{Trigger}
 use Rattle.model.specs.declared.lane.Trigger.TheVariants.{DpInit, Immediate}
 use Rattle.model.specs.declared.lane.Working.{Working}
-use Rattle.model.specs.declared.page.PageStart.{PageStart}
-use Rattle.model.specs.declared.page.PageStart.TheVariants.{Unsupported, At}
 use Rattle.model.specs.declared.path.PathState.{PathState}
 use Rattle.model.specs.declared.power.ModuleState.{ModuleState}
 use Rattle.laws_frames.specs.Frames.{SameWithin}
@@ -125,9 +124,9 @@ module _ (except : ℕ → ℕ → Bool) where
   unfolding put_word
   alike-word at v x y A = alike_set except _ _ (at + 1) (v % 256) (alike_set except x y (at + 0) (v / 256 % 256) A)
 
-  pub alike_page : (place : PageStart) (page : ℕ) (x y : Image) → Alike except x y → Alike except (with_page place page x) (with_page place page y)
-  alike_page Unsupported page x y A = alike_set except _ _ 127 0 (alike_set except x y 126 0 A)
-  alike_page (At start) page x y A = alike_set except x y 127 page A
+  pub alike_page : (place : Option ℕ) (page : ℕ) (x y : Image) → Alike except x y → Alike except (with_page place page x) (with_page place page y)
+  alike_page None page x y A = alike_set except _ _ 127 0 (alike_set except x y 126 0 A)
+  alike_page (Some start) page x y A = alike_set except x y 127 page A
 
   pub alike_cleared : (i n : ℕ) (x y : Image) → Alike except x y → Alike except (cleared_image x i n) (cleared_image y i n)
   unfolding cleared_image

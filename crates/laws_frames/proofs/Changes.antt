@@ -1,4 +1,5 @@
 -- The range of the image that each change stays in. Assumes nothing.
+use Rattle.std.proofs.Common.{None, Some, Option, ℕ}
 use mathlib.Core.Path.{◌≡◌, refl, ◌∙◌}
 use mathlib.Core.Bool.{Bool, true, false}
 use mathlib.Core.Logic.{◌⊎◌, inl, inr}
@@ -23,8 +24,6 @@ use Rattle.model.specs.Pages.{with_page, page_start, selected_image}
 use Rattle.model.specs.Access.{cleared_image}
 use Rattle.model.specs.declared.lane.Settings.{Settings}
 use Rattle.model.specs.declared.lane.Working.{Working}
-use Rattle.model.specs.declared.page.PageStart.{PageStart}
-use Rattle.model.specs.declared.page.PageStart.TheVariants.{Unsupported, At}
 use Rattle.model.specs.declared.path.PathState.{PathState}
 use Rattle.laws_frames.specs.Frames.{Beside, SameOutside, state_end, status_end, pending_end, SameAdvertised, SameOffPath}
 use Rattle.laws_frames.proofs.Outside.{outside_refl, outside_trans, outside_wider, set_outside, put_outside, each_outside}
@@ -95,10 +94,10 @@ sampled_outside l p x b =
 
 -- ---- host accesses
 
-page_outside : (place : PageStart) (page : ℕ) (x : Image) → SameOutside 126 128 x (with_page place page x)
-page_outside Unsupported page x = outside_trans (outside_wider 126 128 (omega arith) (omega arith) (set_outside x 126 0))
+page_outside : (place : Option ℕ) (page : ℕ) (x : Image) → SameOutside 126 128 x (with_page place page x)
+page_outside None page x = outside_trans (outside_wider 126 128 (omega arith) (omega arith) (set_outside x 126 0))
     (outside_wider 126 128 (omega arith) (omega arith) (set_outside (set x 126 0) 127 0))
-page_outside (At start) page x = outside_wider 126 128 (omega arith) (omega arith) (set_outside x 127 page)
+page_outside (Some start) page x = outside_wider 126 128 (omega arith) (omega arith) (set_outside x 127 page)
 
 pub selected_outside : (page : ℕ) (x : Image) → SameOutside 126 128 x (selected_image page x)
 unfolding selected_image

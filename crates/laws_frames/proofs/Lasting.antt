@@ -1,4 +1,5 @@
 -- What is on after each event: a lasting condition and a sample change it, and nothing else does. What a read shows of it. Assumes nothing.
+use Rattle.std.proofs.Common.{None, Some, Option}
 use mathlib.Core.Path.{◌≡◌, refl, ap, ◌∙◌}
 use mathlib.Core.Bool.{true, false}
 use mathlib.Core.List.{List, [], ◌∷◌}
@@ -30,8 +31,7 @@ use Rattle.model.specs.declared.lane.Trigger.{Trigger}
 use Rattle.model.specs.declared.lane.StagedSet.{StagedSet}
 use Rattle.model.specs.declared.lane.Verdict.{Verdict}
 use Rattle.model.specs.declared.lane.Verdict.TheVariants.{Pass, Reject}
-use Rattle.model.specs.declared.lane.Stage.{Stage}
-use Rattle.model.specs.declared.lane.Stage.TheVariants.{Idle, InProgress}
+use Rattle.model.specs.declared.lane.Progress.{Progress}
 use Rattle.model.specs.declared.event.Call.{Call}
 use Rattle.model.specs.declared.event.Call.TheVariants.{Write, Read, Work, Hardware, Condition, Sample, Lasting, Module, Line}
 use Rattle.model.specs.declared.lane.Working.{Working}
@@ -69,10 +69,10 @@ module _ (l : ℕ) (h : l < 8) where
   by_on (Reject code) mode s g t = closed_on s g
   by_on (Pass n) mode s g t = pick-has (λ (c : Effect). Kept s c.state) (ltb n 8) (λ e. on-kept s.working _ l h) (λ e. closed_on s g)
 
-  on-on : (t : Stage) (mode : Mode) (s : State) → Kept s (work_effect_on t mode s).state
+  on-on : (t : Option Progress) (mode : Mode) (s : State) → Kept s (work_effect_on t mode s).state
   unfolding work_effect_on
-  on-on Idle mode s = refl
-  on-on (InProgress p) mode s = by_on p.verdict mode s p.group p.trigger
+  on-on None mode s = refl
+  on-on (Some p) mode s = by_on p.verdict mode s p.group p.trigger
 
   ended-on : (address : ℕ) (bytes : List ℕ) (n : ℕ) (s : State) → on_at (ended_state address bytes n s).working l ≡ pick (resets address bytes n) 0 (on_at s.working l)
   unfolding ended_state reset_state pick

@@ -1,4 +1,5 @@
 -- A trigger decides alike for a lane outside A: which lanes are its group, whether it is marked, and the verdict, over the view. Assumes nothing.
+use Rattle.std.proofs.Common.{None, Some, Option}
 use mathlib.Core.Path.{◌≡◌, refl, sym, ◌∙◌}
 use mathlib.Core.Bool.{Bool, true, false}
 use Prim.Native.Nat.{ℕ, ◌<◌}
@@ -13,8 +14,7 @@ use Rattle.model.specs.View.{View, of, state_in, application_in, same_path, path
 use Rattle.model.specs.Groups.{joined, released_with, in_group, group_of}
 use Rattle.model.specs.Verdicts.{other_app_sel, crossing, unsupported, too_late, wrong_state, apply_by, apply_verdict, path_release, release_verdict, verdict_of}
 use Rattle.model.specs.Triggers.{is_marked, marked_stage, stage_after}
-use Rattle.model.specs.declared.application.Lookup.{Lookup}
-use Rattle.model.specs.declared.application.Lookup.TheVariants.{Missing, Found}
+use Rattle.model.specs.declared.application.Descriptor.{Descriptor}
 use Rattle.model.specs.declared.lane.StagedSet.{StagedSet}
 use Rattle.model.specs.declared.lane.Trigger.{Trigger}
 use Rattle.model.specs.declared.lane.Trigger.TheVariants.{DpInit, Immediate}
@@ -81,10 +81,10 @@ module _ (A : ℕ) (v u : View) (S : Shows A v u) where
       unfolding wrong_state
       wrong-out t a = rw (S.states (first_in g) first.0 first.1, late-out t a)
 
-      by_out : (d : Lookup) (t : Trigger) (f a : ℕ) → apply_by d t v g f a ≡ apply_by d t u g f a
+      by_out : (d : Option Descriptor) (t : Trigger) (f a : ℕ) → apply_by d t v g f a ≡ apply_by d t u g f a
       unfolding apply_by
-      by_out Missing t f a = refl
-      by_out (Found d) t f a = rw (crossing-out, unsupported-out, wrong-out t a)
+      by_out None t f a = refl
+      by_out (Some d) t f a = rw (crossing-out, unsupported-out, wrong-out t a)
 
       apply-out : (t : Trigger) (f a : ℕ) → apply_verdict t v g f a ≡ apply_verdict t u g f a
       unfolding apply_verdict

@@ -1,4 +1,5 @@
 -- Every group in progress lies wholly inside A or wholly outside, in each run by itself: from what is supposed of its triggers. Assumes nothing.
+use Rattle.std.proofs.Common.{None, Some, Option}
 use mathlib.Core.Path.{◌≡◌, refl, sym, ap, ◌∙◌}
 use mathlib.Core.Bool.{Bool, true, false}
 use mathlib.Core.List.{List, [], ◌∷◌}
@@ -33,10 +34,7 @@ use Rattle.model.specs.declared.lane.StagedSet.{StagedSet}
 use Rattle.model.specs.declared.lane.Verdict.{Verdict}
 use Rattle.model.specs.declared.lane.Verdict.TheVariants.{Pass, Reject}
 use Rattle.model.specs.declared.lane.Progress.{Progress}
-use Rattle.model.specs.declared.lane.Stage.{Stage}
-use Rattle.model.specs.declared.lane.Stage.TheVariants.{Idle, InProgress}
-use Rattle.model.specs.declared.lane.TriggerPlace.{TriggerPlace}
-use Rattle.model.specs.declared.lane.TriggerPlace.TheVariants.{NoTrigger, Applies}
+use Rattle.model.specs.declared.lane.Apply.{Apply}
 use Rattle.model.specs.declared.lane.Working.{Working}
 use Rattle.laws_frames.proofs.Stages.{idle-stage, stage_in, freed_in, freed_out, advanced_in, advanced_out, stage-kept}
 use Rattle.laws_sound.proofs.Stranger.{not-idle}
@@ -44,13 +42,13 @@ use Rattle.laws_links.specs.Links.{GroupsParted, ByteParted, BytesParted, Parted
 
 module _ (A : ℕ) where
   abbrev pub Held : Working → Type 0
-  Held w = (l m : ℕ) (p : Progress) → l < 8 → m < 8 → stage_at w l ≡ InProgress p → has p.group m ≡ true → has A m ≡ has A l
+  Held w = (l m : ℕ) (p : Progress) → l < 8 → m < 8 → stage_at w l ≡ Some p → has p.group m ≡ true → has A m ≡ has A l
 
   idle-held : (line : Bool) → Held (idle_with line)
   idle-held line l m p b c e i = absurd (not-idle (idle-stage line l b) e)
 
   -- stages of the same groups
-  held_by : (w u : Working) → ((l : ℕ) (p : Progress) → l < 8 → stage_at u l ≡ InProgress p → (q : Progress) × (stage_at w l ≡ InProgress q) × (q.group ≡ p.group)) → Held w → Held u
+  held_by : (w u : Working) → ((l : ℕ) (p : Progress) → l < 8 → stage_at u l ≡ Some p → (q : Progress) × (stage_at w l ≡ Some q) × (q.group ≡ p.group)) → Held w → Held u
   held_by w u f H l m p b c e i = let r = f l p b e in H l m r.0 b c r.1 (rw r.2 i)
 
   held_stages : (w u : Working) → ((l : ℕ) → l < 8 → stage_at u l ≡ stage_at w l) → Held w → Held u
@@ -61,7 +59,7 @@ module _ (A : ℕ) where
 
   -- ---- a trigger
 
-  marked-group : (t : Trigger) (set : StagedSet) (v : View) (sel l : ℕ) (p : Progress) → marked_stage t set v sel l ≡ InProgress p → p.group ≡ group_of v sel l
+  marked-group : (t : Trigger) (set : StagedSet) (v : View) (sel l : ℕ) (p : Progress) → marked_stage t set v sel l ≡ Some p → p.group ≡ group_of v sel l
   unfolding marked_stage
   marked-group t set v sel l p e =
       let r : p ≡ progress_of t set (group_of v sel l) (of v.staged l) (verdict_of t v (group_of v sel l)) = cc in ap (λ (z : Progress). z.group) r
@@ -69,7 +67,7 @@ module _ (A : ℕ) where
   marked-held : (t : Trigger) (set : StagedSet) (v : View) (w : Working) (sel : ℕ) → GroupsParted A v sel → Held w → Held (with_stages w (stage_after t set v w sel))
   unfolding stage_after is_marked
   marked-held t set v w sel G H l m p b c e i =
-      let s : stage_after t set v w sel l ≡ InProgress p = sym (stage_in w (stage_after t set v w sel) l b) ∙ e in
+      let s : stage_after t set v w sel l ≡ Some p = sym (stage_in w (stage_after t set v w sel) l b) ∙ e in
       split (is_marked v w sel l)
       (λ k. let g : p.group ≡ group_of v sel l = marked-group t set v sel l p (sym (pick_true _ _ k) ∙ s) in
       G l m b c (both_l _ _ k) (rw g at i))
@@ -82,10 +80,10 @@ module _ (A : ℕ) where
 
   -- ---- written bytes
 
-  by_held : (place : TriggerPlace) (i v : ℕ) (s : State) → ByteParted place A s v → Held s.working → Held (stored_by place i v s).working
+  by_held : (place : Option Apply) (i v : ℕ) (s : State) → ByteParted place A s v → Held s.working → Held (stored_by place i v s).working
   unfolding stored_by
-  by_held NoTrigger i v s G H = pick-has (λ (z : State). Held z.working) (writable i) (λ e. H) (λ e. H)
-  by_held (Applies a) i v s G H = triggered_held a.trigger a.set s v G H
+  by_held None i v s G H = pick-has (λ (z : State). Held z.working) (writable i) (λ e. H) (λ e. H)
+  by_held (Some a) i v s G H = triggered_held a.trigger a.set s v G H
 
   byte-held : (address v : ℕ) (s : State) → ByteParted (trigger_at (index_of s.image address)) A s v → Held s.working → Held (byte_written_state address v s).working
   unfolding byte_written_state stored_state
@@ -103,10 +101,10 @@ module _ (A : ℕ) where
 
   -- ---- a work step
 
-  turned_group : (s : Stage) (u : Verdict) (p : Progress) → with_verdict s u ≡ InProgress p → (q : Progress) × (s ≡ InProgress q) × (q.group ≡ p.group)
+  turned_group : (s : Option Progress) (u : Verdict) (p : Progress) → with_verdict s u ≡ Some p → (q : Progress) × (s ≡ Some q) × (q.group ≡ p.group)
   unfolding with_verdict
-  turned_group Idle u p e = let z : ◌≡◌ {A = ℕ} 0 1 = cc in absurd (omega arith)
-  turned_group (InProgress q) u p e = (q, refl, cc)
+  turned_group None u p e = let z : ◌≡◌ {A = ℕ} 0 1 = cc in absurd (omega arith)
+  turned_group (Some q) u p e = (q, refl, cc)
 
   freed_held : (w : Working) (g : ℕ) → Held w → Held (freed_working w g)
   freed_held w g = held_by w (freed_working w g) (λ l p b e. split (has g l)
@@ -123,10 +121,10 @@ module _ (A : ℕ) where
   work_by_held (Reject code) s g t H = freed_held s.working g H
   work_by_held (Pass n) s g t H = pick-has (λ (c : Effect). Held c.state.working) (ltb n 8) (λ e. advanced_held s.working g _ H) (λ e. freed_held s.working g H)
 
-  work-held : (stage : Stage) (s : State) → Held s.working → Held (work_effect_on stage early s).state.working
+  work-held : (stage : Option Progress) (s : State) → Held s.working → Held (work_effect_on stage early s).state.working
   unfolding work_effect_on
-  work-held Idle s H = H
-  work-held (InProgress p) s H = work_by_held p.verdict s p.group p.trigger H
+  work-held None s H = H
+  work-held (Some p) s H = work_by_held p.verdict s p.group p.trigger H
 
   -- ---- every event
 

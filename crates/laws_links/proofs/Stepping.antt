@@ -1,4 +1,5 @@
 -- One event in both runs, or in one alone: the states stay near, and the answers are the same. Assumes nothing.
+use Rattle.std.proofs.Common.{None, Some, Option}
 use mathlib.Core.Path.{◌≡◌, refl, sym, ap, subst, ◌∙◌}
 use mathlib.Core.Bool.{Bool, true, false, not}
 use mathlib.Core.List.{List, []}
@@ -31,8 +32,7 @@ use Rattle.model.specs.declared.answer.Answer.TheVariants.{NoSuchTarget, BadAcce
 use Rattle.model.specs.declared.event.Call.{Call}
 use Rattle.model.specs.declared.event.Call.TheVariants.{Write, Read, Work, Hardware, Condition, Sample, Lasting, Module, Line}
 use Rattle.model.specs.declared.event.Event.{Event}
-use Rattle.model.specs.declared.lane.Stage.{Stage}
-use Rattle.model.specs.declared.lane.Stage.TheVariants.{Idle, InProgress}
+use Rattle.model.specs.declared.lane.Progress.{Progress}
 use Rattle.model.specs.declared.lane.StagedSet.TheVariants.{Set0}
 use Rattle.laws_frames.specs.Alike.{Alike}
 use Rattle.laws_frames.proofs.Alike.{alike_refl, alike_cleared}
@@ -128,11 +128,11 @@ module _ (A : ℕ) where
       bytes = taken-same A s.image t.image N.image (index_of s.image address) count;
     })
 
-    worked-both : (i l : ℕ) → l < 8 → has A l ≡ false → Sound (seen_of s) → Held A s.working → (g : Stage) → stage_at s.working l ≡ g
+    worked-both : (i l : ℕ) → l < 8 → has A l ≡ false → Sound (seen_of s) → Held A s.working → (g : Option Progress) → stage_at s.working l ≡ g
         → Carried i (work_effect_on g early s) (work_effect_on g early t)
     unfolding work_effect_on
-    worked-both i l h a S H Idle e = on_near i s t N
-    worked-both i l h a S H (InProgress p) e =
+    worked-both i l h a S H None e = on_near i s t N
+    worked-both i l h a S H (Some p) e =
         let G = S.grouped l p h e in
         let r = work-both A s t N p.group (λ m k j. H l m p h k e j ∙ a) p.verdict p.trigger l h G.own (λ n q k. (G.next n q).1 k) in
         record { states = r.0; mask = r.1; bytes = rw r.2 (alike_refl _ _) }
@@ -208,11 +208,11 @@ module _ (A : ℕ) where
   only_own m o l h e = split (has A l) (λ a. a) (λ a. absurd (clash e (o l (h, a))))
 
   module _ (s t : State) (N : Near A s t) where
-    worked_alone : (l : ℕ) → l < 8 → has A l ≡ true → Sound (seen_of s) → Held A s.working → (g : Stage) → stage_at s.working l ≡ g
+    worked_alone : (l : ℕ) → l < 8 → has A l ≡ true → Sound (seen_of s) → Held A s.working → (g : Option Progress) → stage_at s.working l ≡ g
         → Near A (work_effect_on g early s).state t
     unfolding work_effect_on
-    worked_alone l h a S H Idle e = N
-    worked_alone l h a S H (InProgress p) e =
+    worked_alone l h a S H None e = N
+    worked_alone l h a S H (Some p) e =
         work_alone A s t N p.group (λ m k j. H l m p h k e j ∙ a) p.verdict p.trigger (λ n q k. ((S.grouped l p h e).next n q).1 k)
 
     hardware_alone : (l : ℕ) → l < 8 → has A l ≡ true → PathsParted A s.image → (down : Bool) → Same A (hardware_image down s.image l) t.image

@@ -1,4 +1,5 @@
 -- A trigger and a written byte, in both runs or in one alone. Assumes nothing.
+use Rattle.std.proofs.Common.{None, Some, Option}
 use mathlib.Core.Path.{◌≡◌, refl, sym, ap, ◌∙◌}
 use mathlib.Core.Bool.{Bool, true, false}
 use mathlib.Core.List.{List, [], ◌∷◌}
@@ -28,8 +29,6 @@ use Rattle.model.specs.Access.{without_reset, stored_by, stored_state, byte_writ
 use Rattle.model.specs.declared.lane.Apply.{Apply}
 use Rattle.model.specs.declared.lane.StagedSet.{StagedSet}
 use Rattle.model.specs.declared.lane.Trigger.{Trigger}
-use Rattle.model.specs.declared.lane.TriggerPlace.{TriggerPlace}
-use Rattle.model.specs.declared.lane.TriggerPlace.TheVariants.{NoTrigger, Applies}
 use Rattle.laws_frames.proofs.Alike.{alike_page}
 use Rattle.laws_frames.proofs.Ranges.{apart_from, not_in}
 use Rattle.laws_frames.proofs.Registers.{settings-same}
@@ -62,7 +61,7 @@ trigger_owns i l h t = split (eqb i 527)
     (λ k. rw (eqb-true i 563 k) (all_at 8 _ (both_r (owns_each 562) _ (both_r (owns_each 528) _ (both_r (owns_each 527) _ triggers-own))) l h))
     (λ k. absurd (clash (rw (e, f, g, k, pick, is_trigger) at t) refl)))))
 
-applies_is : (a : Apply) → is_trigger (Applies a) ≡ true
+applies_is : (a : Apply) → is_trigger (Some a) ≡ true
 unfolding is_trigger
 applies_is a = refl
 
@@ -146,15 +145,15 @@ module _ (A : ℕ) where
         rw (← q, ← (low A s.image t.image N.image 126 (omega arith) (λ z. omega arith)))
         (alike_page (unsaid A) (page_start (get_or s.image 126 0) v) v s.image t.image N.image)
 
-    by_both : (place : TriggerPlace) → trigger_at i ≡ place → ByteParted place A s v → ByteParted place A t v' → Near A (stored_by place i v s) (stored_by place i v' t)
+    by_both : (place : Option Apply) → trigger_at i ≡ place → ByteParted place A s v → ByteParted place A t v' → Near A (stored_by place i v s) (stored_by place i v' t)
     unfolding stored_by pick has
-    by_both NoTrigger e G G' = split (writable i)
+    by_both None e G G' = split (writable i)
         (λ w. rw (w, pick) (near_image s t N _ _ (set_both A s.image t.image i (without_reset i v) (without_reset i v') without_agrees N.image)))
         (λ w. rw (w, pick) N)
-    by_both (Applies a) e G G' = trigger-both s t N P Q a.trigger a.set v v'
+    by_both (Some a) e G G' = trigger-both s t N P Q a.trigger a.set v v'
         (λ l o. ap (λ f. eqb f 1) (agree l (said_outside A i l (said_own A l i l o.1 (trigger_owns i l o.0 (is_trigger_lem e)))))) G G'
       where
-        is_trigger_lem : trigger_at i ≡ Applies a → is_trigger (trigger_at i) ≡ true
+        is_trigger_lem : trigger_at i ≡ Some a → is_trigger (trigger_at i) ≡ true
         is_trigger_lem f = ap is_trigger f ∙ applies_is a
 
     stored-both : ByteParted (trigger_at i) A s v → ByteParted (trigger_at i) A t v' → Near A (stored_state i v s) (stored_state i v' t)
@@ -165,13 +164,13 @@ module _ (A : ℕ) where
 
   -- ---- a byte in one run alone
 
-  by_alone : (s t : State) → Near A s t → (place : TriggerPlace) (i v : ℕ) → i ≢ module_controls → ConcernsAt place A s i v → Near A (stored_by place i v s) t
+  by_alone : (s t : State) → Near A s t → (place : Option Apply) (i v : ℕ) → i ≢ module_controls → ConcernsAt place A s i v → Near A (stored_by place i v s) t
   unfolding stored_by without_reset pick
-  by_alone s t N NoTrigger i v n c = split (writable i)
+  by_alone s t N None i v n c = split (writable i)
       (λ w. rw (w, ne_eqb i module_controls n, pick)
       (near_image s t N _ t.image (set-inside A s.image t.image i v (λ b e. c w b (said_outside A i b e)) N.image)))
       (λ w. rw (w, pick) N)
-  by_alone s t N (Applies a) i v n c = trigger_alone s t N a.trigger a.set v c
+  by_alone s t N (Some a) i v n c = trigger_alone s t N a.trigger a.set v c
 
   pub byte_alone : (s t : State) → Near A s t → (address v : ℕ) → index_of s.image address ≢ page_select → index_of s.image address ≢ module_controls
       → ConcernsAt (trigger_at (index_of s.image address)) A s (index_of s.image address) v → Near A (byte_written_state address v s) t

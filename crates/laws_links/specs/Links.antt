@@ -1,6 +1,6 @@
 -- One link's word about another (02 Req 13). Two runs from one start differ in what is done to the lanes of a set A alone, and every group and every active
 -- path lies inside A or outside: then every bit that belongs to a lane outside A is the same in both, and so is its record, and so are the answers.
-use Rattle.std.specs.Prelude.{ℕ, suc, ◌+◌, ◌-◌, ◌*◌, ◌/◌, ◌%◌, ◌≤◌, ◌<◌, ◌≡◌, Bool, true, false, List, [], ◌∷◌, ◌≢◌, eqb, leb, ltb, length, take}
+use Rattle.std.specs.Prelude.{ℕ, suc, ◌+◌, ◌-◌, ◌*◌, ◌/◌, ◌%◌, ◌≤◌, ◌<◌, ◌≡◌, Bool, true, false, List, [], ◌∷◌, ◌≢◌, eqb, leb, ltb, length, take, None, Some, Option}
 use Rattle.bits.specs.Choice.{both, either}
 use Rattle.bits.specs.Loop.{any_below, any_of}
 use Rattle.bits.specs.Number.{field}
@@ -21,8 +21,7 @@ use Rattle.model.specs.Step.{read_address, Stepped, step}
 use Rattle.model.specs.declared.event.Call.{Call}
 use Rattle.model.specs.declared.event.Call.TheVariants.{Write, Read, Work, Hardware, Condition, Sample, Lasting, Module, Line}
 use Rattle.model.specs.declared.event.Event.{Event}
-use Rattle.model.specs.declared.lane.TriggerPlace.{TriggerPlace}
-use Rattle.model.specs.declared.lane.TriggerPlace.TheVariants.{NoTrigger, Applies}
+use Rattle.model.specs.declared.lane.Apply.{Apply}
 
 -- ---- which bits belong to which lane
 
@@ -93,9 +92,9 @@ SameBytes A s address (v ∷ vs) (v' ∷ vs') =
     ((b : Bit) → inside A (index_of s.image address) b ≡ false → field v b 1 ≡ field v' b 1) × SameBytes A (byte_written_state address v s) (suc address) vs vs'
 
 -- a byte that concerns A alone: a trigger selects lanes of A only, and a writable byte changes bits inside A only
-abbrev pub ConcernsAt : TriggerPlace → LaneSet → State → Index → Byte → Type 0
-ConcernsAt NoTrigger A s i v = writable i ≡ true → (b : Bit) → inside A i b ≡ false → field v b 1 ≡ digit s.image i b
-ConcernsAt (Applies a) A s i v = OnlyOf A v
+abbrev pub ConcernsAt : Option Apply → LaneSet → State → Index → Byte → Type 0
+ConcernsAt None A s i v = writable i ≡ true → (b : Bit) → inside A i b ≡ false → field v b 1 ≡ digit s.image i b
+ConcernsAt (Some a) A s i v = OnlyOf A v
 
 -- bytes written from an address on that concern A alone: none goes to 127, to lower 26 or to 9Fh:129
 unfoldable pub Concerns : LaneSet → State → Address → Bytes → Type 0
@@ -148,9 +147,9 @@ GroupsParted A v selected =
     (l m : Lane) → l < lane_count → m < lane_count → has selected l ≡ true → has (group_of v selected l) m ≡ true → has A m ≡ has A l
 
 -- .. at the byte of a trigger, in the state in which it is handled
-abbrev pub ByteParted : TriggerPlace → LaneSet → State → Byte → Type 0
-ByteParted NoTrigger A s v = NothingAsked
-ByteParted (Applies a) A s v = is_ignored a.trigger s.image ≡ false → GroupsParted A (view_of (staged_base a.set) s.image) v
+abbrev pub ByteParted : Option Apply → LaneSet → State → Byte → Type 0
+ByteParted None A s v = NothingAsked
+ByteParted (Some a) A s v = is_ignored a.trigger s.image ≡ false → GroupsParted A (view_of (staged_base a.set) s.image) v
 
 unfoldable pub BytesParted : LaneSet → State → Address → Bytes → Type 0
 BytesParted A s address [] = NothingAsked

@@ -1,4 +1,5 @@
 -- Public calls, a list of events and a night file say the same: the promises of specs/SaySame.antt, kept. Assumes nothing.
+use Rattle.std.proofs.Common.{Err, Ok}
 use mathlib.Core.Path.{◌≡◌, refl, sym, ap, ◌∙◌}
 use mathlib.Core.List.{List, [], ◌∷◌, ◌++◌}
 use Prim.Native.Nat.{ℕ, suc}
@@ -20,7 +21,6 @@ use Rattle.model.specs.Text.{line}
 use Rattle.model.specs.Night.{lines_from, night_of, printed_text_by, printed_up_to, printed_text}
 use Rattle.model.specs.declared.answer.Answer.{Answer}
 use Rattle.model.specs.declared.answer.Answer.TheVariants.{Done}
-use Rattle.model.specs.declared.file.FileCheck.TheVariants.{Refused, Good}
 use Rattle.laws.specs.Calls.{Called}
 use Rattle.laws.proofs.Unchanged.{done_is, laid_front, laid_rest}
 use Rattle.laws.proofs.Reading.{step_gives}
@@ -52,7 +52,7 @@ length_numbers [] = refl
 length_numbers (o ∷ os) = ap suc (length_numbers os)
 
 -- what is refused is not good
-not_good : (a : Answer) (n : ℕ) → Refused a ≡ Good n → ⊥
+not_good : (a : Answer) (n : ℕ) → Err a ≡ Ok n → ⊥
 not_good a n e = let z : ◌≡◌ {A = ℕ} 0 1 = cc in omega arith
 
 module _ (file : List ℕ) (replayed : Replayed file) where

@@ -1,5 +1,5 @@
 -- THE PROMISES about files: a file prints what public calls of its records give, one after the other, and the answers that the list call gives for them.
-use Rattle.std.specs.Prelude.{◌≡◌, List, [], ◌∷◌, ◌++◌, map, ℕ, suc, ◌≤◌, length, take, drop}
+use Rattle.std.specs.Prelude.{◌≡◌, List, [], ◌∷◌, ◌++◌, map, ℕ, suc, ◌≤◌, length, take, drop, Ok}
 use Rattle.model.specs.Answers.{number}
 use Rattle.model.specs.State.{State}
 use Rattle.model.specs.Step.{Stepped}
@@ -8,14 +8,13 @@ use Rattle.model.specs.File.{record_count, image_in, events_in, file_check}
 use Rattle.model.specs.Text.{line}
 use Rattle.model.specs.Night.{night_of, printed_text}
 use Rattle.model.specs.declared.answer.Answer.TheVariants.{Done}
-use Rattle.model.specs.declared.file.FileCheck.TheVariants.{Good}
 use Rattle.laws.specs.Reading.{given_by}
 use Rattle.laws.specs.Calls.{Called, outcome_at}
 use Rattle.laws_sound.specs.Reached.{events_of, Roomy}
 
 -- a file that is replayed: the check of it finds nothing to refuse
 abbrev pub Replayed : List ℕ → Type 0
-Replayed file = file_check file ≡ Good (record_count file)
+Replayed file = file_check file ≡ Ok (record_count file)
 
 -- ---- calls
 

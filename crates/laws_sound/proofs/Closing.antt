@@ -1,4 +1,5 @@
 -- A group closes: soundness stays, over what it looks at. Assumes nothing.
+use Rattle.std.proofs.Common.{None, Some, Option}
 use mathlib.Core.Path.{◌≡◌, refl, sym, ap, ◌∙◌}
 use mathlib.Core.Bool.{true, false}
 use Prim.Native.Nat.{ℕ, zero, suc, ◌≤◌, ◌<◌}
@@ -17,8 +18,6 @@ use Rattle.model.specs.Verdicts.{deactivated}
 use Rattle.model.specs.Work.{written_settings}
 use Rattle.model.specs.declared.lane.Verdict.TheVariants.{Pass, Reject}
 use Rattle.model.specs.declared.lane.Progress.{Progress}
-use Rattle.model.specs.declared.lane.Stage.{Stage}
-use Rattle.model.specs.declared.lane.Stage.TheVariants.{Idle, InProgress}
 use Rattle.laws_sound.specs.Sound.{Seen, held, state_on, Mate, InWhole, Passes, Sound}
 use Rattle.laws_sound.proofs.Paths.{Together, same_together, together_same, used_app, fills_first, fills_ext, written_app, written_id, written_used}
 use Rattle.laws_sound.proofs.Test.{one_fewer, one_ext}
@@ -37,7 +36,7 @@ quiet-sound o cs pd ec ep S = record {
 }
 
 -- .. and so do the stages
-pub restaged_sound : (o : Seen) (st : ℕ → Stage) → ((l : ℕ) → l < 8 → st l ≡ o.stage l) → Sound o
+pub restaged_sound : (o : Seen) (st : ℕ → Option Progress) → ((l : ℕ) → l < 8 → st l ≡ o.stage l) → Sound o
     → Sound (record { stage = st; active = o.active; states = o.states; applications = o.applications; status = o.status; pending = o.pending })
 restaged_sound o st e S = record {
   told = λ l b. rw (e l b) (S.told l b);
@@ -56,21 +55,21 @@ restaged_sound o st e S = record {
 }
 
 -- ---- lanes of a group go idle
-module _ (o : Seen) (S : Sound o) (k : ℕ) (p₀ : Progress) (b₀ : k < 8) (e₀ : o.stage k ≡ InProgress p₀) where
-  module _ (st : ℕ → Stage) (cs pd : ℕ → ℕ) (code : ℕ)
-      (idle : (l : ℕ) → l < 8 → has p₀.group l ≡ true → st l ≡ Idle)
+module _ (o : Seen) (S : Sound o) (k : ℕ) (p₀ : Progress) (b₀ : k < 8) (e₀ : o.stage k ≡ Some p₀) where
+  module _ (st : ℕ → Option Progress) (cs pd : ℕ → ℕ) (code : ℕ)
+      (idle : (l : ℕ) → l < 8 → has p₀.group l ≡ true → st l ≡ None)
       (kept : (l : ℕ) → l < 8 → has p₀.group l ≡ false → st l ≡ o.stage l)
       (status_in : (l : ℕ) → l < 8 → has p₀.group l ≡ true → cs l ≡ code)
       (status-out : (l : ℕ) → l < 8 → has p₀.group l ≡ false → cs l ≡ o.status l)
       (low : code < in_progress)
       (pending-out : (l : ℕ) → l < 8 → has p₀.group l ≡ false → pd l ≡ o.pending l) where
     -- a lane that is still in progress is outside the group, and as it was
-    still : (l : ℕ) (p : Progress) → l < 8 → st l ≡ InProgress p → (o.stage l ≡ InProgress p) × (has p₀.group l ≡ false)
+    still : (l : ℕ) (p : Progress) → l < 8 → st l ≡ Some p → (o.stage l ≡ Some p) × (has p₀.group l ≡ false)
     still l p b e = split (has p₀.group l)
         (λ i. absurd (not-idle (idle l b i) e))
         (λ i. (sym (kept l b i) ∙ e, i))
 
-    kept-mate : (l m : ℕ) (p : Progress) → l < 8 → m < 8 → st l ≡ InProgress p → has p.group m ≡ true → st m ≡ o.stage m
+    kept-mate : (l m : ℕ) (p : Progress) → l < 8 → m < 8 → st l ≡ Some p → has p.group m ≡ true → st m ≡ o.stage m
     kept-mate l m p b bm e i = let t = still l p b e in
         kept m bm (groups-apart o S k l m p₀ p b₀ b bm e₀ t.0 t.1 i)
 
@@ -148,7 +147,7 @@ resting-high : (n : ℕ) → resting (state_of n) ≡ true → n ≤ 7
 resting-high n e = elim (dec_lt n 8) [ yes h ↦ omega arith | no h ↦ absurd (clash e (high_reserved n (omega arith))) ]
 
 -- ---- a pass, all its lanes copied
-module _ (o : Seen) (S : Sound o) (k n : ℕ) (p₀ : Progress) (b₀ : k < 8) (e₀ : o.stage k ≡ InProgress p₀) (q₀ : p₀.verdict ≡ Pass n) (all : 8 ≤ n) where
+module _ (o : Seen) (S : Sound o) (k n : ℕ) (p₀ : Progress) (b₀ : k < 8) (e₀ : o.stage k ≡ Some p₀) (q₀ : p₀.verdict ≡ Pass n) (all : 8 ≤ n) where
   P₀ : Passes o p₀.group n
   P₀ = S.passes k n p₀ b₀ e₀ q₀
 

@@ -1,4 +1,5 @@
 -- A work step copies a lane: soundness stays, over what it looks at. Assumes nothing.
+use Rattle.std.proofs.Common.{None, Some, Option}
 use mathlib.Core.Path.{◌≡◌, refl, sym, ap, ◌∙◌}
 use mathlib.Core.Bool.{true, false}
 use mathlib.Core.List.{List}
@@ -17,8 +18,6 @@ use Rattle.model.specs.declared.lane.Settings.{Settings}
 use Rattle.model.specs.declared.lane.Verdict.{Verdict}
 use Rattle.model.specs.declared.lane.Verdict.TheVariants.{Pass}
 use Rattle.model.specs.declared.lane.Progress.{Progress}
-use Rattle.model.specs.declared.lane.Stage.{Stage}
-use Rattle.model.specs.declared.lane.Stage.TheVariants.{Idle, InProgress}
 use Rattle.laws_sound.specs.Sound.{Seen, held, Mate, Grouped, InWhole, AtRest, OnePath, Passes, Sound}
 use Rattle.laws_sound.proofs.Paths.{Together, same_together, fills_first, written_id, written_used}
 use Rattle.laws_sound.proofs.Test.{not-copied, copied-not, one_fewer, one_ext}
@@ -34,10 +33,10 @@ pub record Turned (q p : Progress) (u : Verdict) : Type 0 where
   pub set : p.set ≡ q.set
   pub verdict : p.verdict ≡ u
 
-turned : (s : Stage) (p : Progress) (u : Verdict) → with_verdict s u ≡ InProgress p → (q : Progress) × (s ≡ InProgress q) × Turned q p u
+turned : (s : Option Progress) (p : Progress) (u : Verdict) → with_verdict s u ≡ Some p → (q : Progress) × (s ≡ Some q) × Turned q p u
 unfolding with_verdict
-turned Idle p u e = let z : ◌≡◌ {A = ℕ} 0 1 = cc in absurd (omega arith)
-turned (InProgress q) p u e =
+turned None p u e = let z : ◌≡◌ {A = ℕ} 0 1 = cc in absurd (omega arith)
+turned (Some q) p u e =
     let r : p ≡ progress_with q u = cc in (
       q,
       refl,
@@ -50,21 +49,21 @@ turned (InProgress q) p u e =
       },
     )
 
-turned_held : (s : Stage) (u : Verdict) → held_in (with_verdict s u) ≡ held_in s
+turned_held : (s : Option Progress) (u : Verdict) → held_in (with_verdict s u) ≡ held_in s
 unfolding held_in with_verdict
-turned_held Idle u = refl
-turned_held (InProgress p) u = refl
+turned_held None u = refl
+turned_held (Some p) u = refl
 
-turned_in_progress : (s : Stage) (u : Verdict) → is_in_progress (with_verdict s u) ≡ is_in_progress s
+turned_in_progress : (s : Option Progress) (u : Verdict) → is_in_progress (with_verdict s u) ≡ is_in_progress s
 unfolding is_in_progress with_verdict
-turned_in_progress Idle u = refl
-turned_in_progress (InProgress p) u = refl
+turned_in_progress None u = refl
+turned_in_progress (Some p) u = refl
 
-turned_passing : {s : Stage} {p : Progress} (n : ℕ) → s ≡ InProgress p → is_passing (with_verdict s (Pass n)) ≡ true
+turned_passing : {s : Option Progress} {p : Progress} (n : ℕ) → s ≡ Some p → is_passing (with_verdict s (Pass n)) ≡ true
 unfolding is_passing is_pass with_verdict
 turned_passing n e = ap (λ z. is_passing (with_verdict z (Pass n))) e
 
-turned_mate : (q p : Progress) (u : Verdict) (s : Stage) → Turned q p u → Mate q s → Mate p (with_verdict s u)
+turned_mate : (q p : Progress) (u : Verdict) (s : Option Progress) → Turned q p u → Mate q s → Mate p (with_verdict s u)
 unfolding with_verdict
 turned_mate q p u s T M = record {
   its = progress_with M.its u;
@@ -76,7 +75,7 @@ turned_mate q p u s T M = record {
 }
 
 -- ---- lane n of a passing group is copied, and the group's next lane follows
-module _ (o : Seen) (S : Sound o) (k n : ℕ) (p₀ : Progress) (b₀ : k < 8) (e₀ : o.stage k ≡ InProgress p₀) (q₀ : p₀.verdict ≡ Pass n) (bn : n < 8) where
+module _ (o : Seen) (S : Sound o) (k n : ℕ) (p₀ : Progress) (b₀ : k < 8) (e₀ : o.stage k ≡ Some p₀) (q₀ : p₀.verdict ≡ Pass n) (bn : n < 8) where
   n_in : has p₀.group n ≡ true
   n_in = ((S.grouped k p₀ b₀ e₀).next n q₀).1 bn
 
@@ -92,7 +91,7 @@ module _ (o : Seen) (S : Sound o) (k n : ℕ) (p₀ : Progress) (b₀ : k < 8) (
   not_n : (m : ℕ) → has p₀.group m ≡ false → m ≢ n
   not_n m f e = clash n_in (rw e at f)
 
-  module _ (st : ℕ → Stage) (av : List Settings)
+  module _ (st : ℕ → Option Progress) (av : List Settings)
       (went_on : (l : ℕ) → l < 8 → has p₀.group l ≡ true → st l ≡ with_verdict (o.stage l) (Pass n'))
       (kept : (l : ℕ) → l < 8 → has p₀.group l ≡ false → st l ≡ o.stage l)
       (at_n : of av n ≡ written_settings (held o n))
@@ -103,9 +102,9 @@ module _ (o : Seen) (S : Sound o) (k n : ℕ) (p₀ : Progress) (b₀ : k < 8) (
         (λ i. ap held_in (kept l b i))
 
     -- each lane in progress, from what it was
-    came : {P : Type 0} (l : ℕ) (p : Progress) → l < 8 → st l ≡ InProgress p
-        → ((q : Progress) → o.stage l ≡ InProgress q → q.group ≡ p₀.group → Turned q p (Pass n') → P)
-        → (has p₀.group l ≡ false → o.stage l ≡ InProgress p → P) → P
+    came : {P : Type 0} (l : ℕ) (p : Progress) → l < 8 → st l ≡ Some p
+        → ((q : Progress) → o.stage l ≡ Some q → q.group ≡ p₀.group → Turned q p (Pass n') → P)
+        → (has p₀.group l ≡ false → o.stage l ≡ Some p → P) → P
     came l p b e f h = split (has p₀.group l)
         (λ i. let r = turned (o.stage l) p (Pass n') (sym (went_on l b i) ∙ e) in
         f r.0 r.1 (in_group_lem o S k l p₀ r.0 b₀ b e₀ r.1 i).group r.2)
@@ -166,7 +165,7 @@ module _ (o : Seen) (S : Sound o) (k n : ℕ) (p₀ : Progress) (b₀ : k < 8) (
 
     -- ---- the groups
 
-    grouped-after : (l : ℕ) (p : Progress) → l < 8 → st l ≡ InProgress p → Grouped o' l p
+    grouped-after : (l : ℕ) (p : Progress) → l < 8 → st l ≡ Some p → Grouped o' l p
     grouped-after l p b e = came l p b e
         (λ q e' eg T. let G : Grouped o l q = S.grouped l q b e' in
         let g : p.group ≡ p₀.group = T.group ∙ eg in
@@ -214,7 +213,7 @@ module _ (o : Seen) (S : Sound o) (k n : ℕ) (p₀ : Progress) (b₀ : k < 8) (
       remain = remain_now;
     }
 
-    other_passes : (l j : ℕ) (p : Progress) → l < 8 → o.stage l ≡ InProgress p → has p₀.group l ≡ false → p.verdict ≡ Pass j → Passes o' p.group j
+    other_passes : (l j : ℕ) (p : Progress) → l < 8 → o.stage l ≡ Some p → has p₀.group l ≡ false → p.verdict ≡ Pass j → Passes o' p.group j
     other_passes l j p b e f z =
         let P : Passes o p.group j = S.passes l j p b e z in
         record {

@@ -1,4 +1,5 @@
 -- How lanes fall into groups at a trigger, and what a passing verdict tells. Over a view alone. Assumes nothing.
+use Rattle.std.proofs.Common.{None, Some, Option}
 use mathlib.Core.Path.{◌≡◌, refl, sym, ap, ◌∙◌}
 use mathlib.Core.Bool.{Bool, true, false}
 use mathlib.Core.Logic.{inl, inr}
@@ -20,8 +21,6 @@ use Rattle.model.specs.declared.lane.Trigger.{Trigger}
 use Rattle.model.specs.declared.lane.Verdict.{Verdict}
 use Rattle.model.specs.declared.lane.Verdict.TheVariants.{Pass, Reject}
 use Rattle.model.specs.declared.application.Descriptor.{Descriptor}
-use Rattle.model.specs.declared.application.Lookup.{Lookup}
-use Rattle.model.specs.declared.application.Lookup.TheVariants.{Missing, Found}
 use Rattle.laws_sound.proofs.Paths.{same_sym, same_trans}
 use Rattle.laws_sound.proofs.Test.{some_none}
 
@@ -124,10 +123,10 @@ fair_pick g true u w p q = p
 fair_pick g false u w p q = q
 
 module _ (t : Trigger) (v : View) (g : ℕ) where
-  fair_apply : (a : Lookup) (f n : ℕ) → Fair g (apply_by a t v g f n)
+  fair_apply : (a : Option Descriptor) (f n : ℕ) → Fair g (apply_by a t v g f n)
   unfolding apply_by
-  fair_apply Missing f n = fair_code g invalid_application (omega arith) (omega arith)
-  fair_apply (Found d) f n =
+  fair_apply None f n = fair_code g invalid_application (omega arith) (omega arith)
+  fair_apply (Some d) f n =
       fair_pick g _ _ _ (fair_code g invalid_path (omega arith) (omega arith))
       (fair_pick g _ _ _ (fair_code g partial_path (omega arith) (omega arith))
       (fair_pick g _ _ _ (fair_code g lanes_in_use (omega arith) (omega arith))
@@ -154,7 +153,7 @@ no_reason false c n u e = (refl, e)
 pub record Applied (v : View) (g f a : ℕ) : Type 0 where
   pub alike : (m : ℕ) → m < 8 → has g m ≡ true → app_sel (of v.staged m) ≡ a
   pub descriptor : Descriptor
-  pub found : application_in v.applications a ≡ Found descriptor
+  pub found : application_in v.applications a ≡ Some descriptor
   pub allowed : has descriptor.firsts f ≡ true
   pub room : f + descriptor.count ≤ 8
   pub exact : (m : ℕ) → m < 8 → has g m ≡ within f descriptor.count m
@@ -185,11 +184,11 @@ module _ (t : Trigger) (v : View) (g n : ℕ) where
   unfolding incomplete
   complete d f e m b w = split (has g m) (λ i. i) (λ i. absurd (clash (both_i w (rw i)) (any_none 8 _ e m b)))
 
-  applied_by : (a f : ℕ) (k : Lookup) → application_in v.applications a ≡ k → apply_by k t v g f a ≡ Pass n
+  applied_by : (a f : ℕ) (k : Option Descriptor) → application_in v.applications a ≡ k → apply_by k t v g f a ≡ Pass n
       → ((m : ℕ) → m < 8 → has g m ≡ true → app_sel (of v.staged m) ≡ a) → Applied v g f a
   unfolding apply_by wrong_state
-  applied_by a f Missing q e s = let z : ◌≡◌ {A = ℕ} 0 1 = cc in absurd (omega arith)
-  applied_by a f (Found d) q e s =
+  applied_by a f None q e s = let z : ◌≡◌ {A = ℕ} 0 1 = cc in absurd (omega arith)
+  applied_by a f (Some d) q e s =
       let r₁ = no_reason _ _ n _ e in
       let r₂ = no_reason _ _ n _ r₁.1 in
       let r₃ = no_reason _ _ n _ r₂.1 in

@@ -1,4 +1,5 @@
 -- (f): start has it, and every event keeps it. Assumes nothing.
+use Rattle.std.proofs.Common.{None, Some, Option}
 use mathlib.Core.Path.{◌≡◌, refl, sym, ◌∙◌}
 use mathlib.Core.Bool.{Bool, true, false, not}
 use mathlib.Core.List.{List, [], ◌∷◌}
@@ -40,8 +41,7 @@ use Rattle.model.specs.declared.lane.Trigger.{Trigger}
 use Rattle.model.specs.declared.lane.Trigger.TheVariants.{DpInit, Immediate}
 use Rattle.model.specs.declared.lane.Verdict.{Verdict}
 use Rattle.model.specs.declared.lane.Verdict.TheVariants.{Pass, Reject}
-use Rattle.model.specs.declared.lane.Stage.{Stage}
-use Rattle.model.specs.declared.lane.Stage.TheVariants.{Idle, InProgress}
+use Rattle.model.specs.declared.lane.Progress.{Progress}
 use Rattle.model.proofs.Lasting.{condition-among, flag_now, flag_other}
 use Rattle.laws_frames.specs.Frames.{SameWithin, on_after}
 use Rattle.laws_frames.proofs.Ranges.{apart_from, all_apart, ranges_apart}
@@ -120,10 +120,10 @@ by_same (Pass n) s g t = pick-has (λ (c : Effect). SameLasting s c.state) (ltb 
     (λ e. below_range lasting_from lasting_end (omega arith) (copy_outside s.working n s.image (ltb-true n 8 e)))
     (λ e i a b. closed_same g _ _ i a b ∙ pending-same _ t g s.image i a b)
 
-on_same : (t : Stage) (s : State) → SameLasting s (work_effect_on t early s).state
+on_same : (t : Option Progress) (s : State) → SameLasting s (work_effect_on t early s).state
 unfolding work_effect_on
-on_same Idle s = λ i a b. refl
-on_same (InProgress p) s = by_same p.verdict s p.group p.trigger
+on_same None s = λ i a b. refl
+on_same (Some p) s = by_same p.verdict s p.group p.trigger
 
 module _ (s : State) (O : AllOnFit s) where
   -- (f) of what such an event leaves

@@ -1,4 +1,5 @@
 -- A trigger marks groups: soundness stays, over what it looks at. Assumes nothing.
+use Rattle.std.proofs.Common.{Some, Option}
 use mathlib.Core.Path.{◌≡◌, refl, sym, ap, ◌∙◌}
 use mathlib.Core.Bool.{true, false}
 use mathlib.Core.Logic.{inl, inr}
@@ -22,8 +23,6 @@ use Rattle.model.specs.declared.lane.Trigger.{Trigger}
 use Rattle.model.specs.declared.lane.StagedSet.{StagedSet}
 use Rattle.model.specs.declared.lane.Verdict.TheVariants.{Pass}
 use Rattle.model.specs.declared.lane.Progress.{Progress}
-use Rattle.model.specs.declared.lane.Stage.{Stage}
-use Rattle.model.specs.declared.lane.Stage.TheVariants.{InProgress}
 use Rattle.model.specs.declared.lane.Working.{Working}
 use Rattle.laws_sound.specs.Sound.{Seen, held, Mate, Grouped, OnePath, Passes, Sound}
 use Rattle.laws_frames.specs.Frames.{Fits}
@@ -63,7 +62,7 @@ record Marked (t : Trigger) (staged : StagedSet) (v : View) (sel l : ℕ) (p : P
   pub set : p.set ≡ staged
   pub verdict : p.verdict ≡ verdict_of t v (group_of v sel l)
 
-marked_record : (t : Trigger) (set : StagedSet) (v : View) (sel l : ℕ) (p : Progress) → marked_stage t set v sel l ≡ InProgress p → Marked t set v sel l p
+marked_record : (t : Trigger) (set : StagedSet) (v : View) (sel l : ℕ) (p : Progress) → marked_stage t set v sel l ≡ Some p → Marked t set v sel l p
 unfolding marked_stage
 marked_record t set v sel l p e =
     let r : p ≡ progress_of t set (group_of v sel l) (of v.staged l) (verdict_of t v (group_of v sel l)) = cc in
@@ -183,7 +182,7 @@ module _ (t : Trigger) (set : StagedSet) (v : View) (w : Working) (sel : ℕ) (c
         (λ y. absurd (clash (in_used v sel first m (with_first m bm i) y).0 u)) (λ y. y))
 
   -- ---- the lanes after it
-  module _ (st : ℕ → Stage) (cs' : ℕ → ℕ)
+  module _ (st : ℕ → Option Progress) (cs' : ℕ → ℕ)
       (new : (l : ℕ) → l < 8 → st l ≡ stage_after t set v w sel l)
       (status_in : (l : ℕ) → l < 8 → is_marked v w sel l ≡ true → cs' l ≡ in_progress)
       (status-out : (l : ℕ) → l < 8 → is_marked v w sel l ≡ false → cs' l ≡ cs l)
@@ -196,8 +195,8 @@ module _ (t : Trigger) (set : StagedSet) (v : View) (w : Working) (sel : ℕ) (c
     unfolding stage_after
     keeps l b k = new l b ∙ pick-false _ _ k
 
-    came : {P : Type 0} (l : ℕ) (p : Progress) → l < 8 → st l ≡ InProgress p
-        → (is_marked v w sel l ≡ true → Marked t set v sel l p → P) → (is_marked v w sel l ≡ false → stage_at w l ≡ InProgress p → P) → P
+    came : {P : Type 0} (l : ℕ) (p : Progress) → l < 8 → st l ≡ Some p
+        → (is_marked v w sel l ≡ true → Marked t set v sel l p → P) → (is_marked v w sel l ≡ false → stage_at w l ≡ Some p → P) → P
     came l p b e f h = split (is_marked v w sel l)
         (λ k. f k (marked_record t set v sel l p (sym (marks l b k) ∙ e)))
         (λ k. h k (sym (keeps l b k) ∙ e))
@@ -208,7 +207,7 @@ module _ (t : Trigger) (set : StagedSet) (v : View) (w : Working) (sel : ℕ) (c
         (λ k. ap is_passing (sym (keeps l b k)) ∙ f)
 
     -- a lane of a group in progress already is as it was
-    kept-mate : (l m : ℕ) (p : Progress) → l < 8 → m < 8 → stage_at w l ≡ InProgress p → has p.group m ≡ true → st m ≡ stage_at w m
+    kept-mate : (l m : ℕ) (p : Progress) → l < 8 → m < 8 → stage_at w l ≡ Some p → has p.group m ≡ true → st m ≡ stage_at w m
     kept-mate l m p b bm e i = let M : Mate p (stage_at w m) = (S.grouped l p b e).mate m bm i in
         keeps m bm (busy_unmarked v w sel m bm (in_progress_lem M.stage))
 
@@ -251,7 +250,7 @@ module _ (t : Trigger) (set : StagedSet) (v : View) (w : Working) (sel : ℕ) (c
         holds : (m : ℕ) → m < 8 → has (group_of v sel l) m ≡ true → held_in (st m) ≡ of v.staged m
         holds m bm i = ap held_in (marks m bm (marked-mate v w sel l m k bm i)) ∙ marked-held t set v sel m
 
-    old_passes : (l n : ℕ) (p : Progress) → l < 8 → stage_at w l ≡ InProgress p → p.verdict ≡ Pass n → Passes o' p.group n
+    old_passes : (l n : ℕ) (p : Progress) → l < 8 → stage_at w l ≡ Some p → p.verdict ≡ Pass n → Passes o' p.group n
     old_passes l n p b e q =
         let P : Passes o p.group n = S.passes l n p b e q in
         record {

@@ -1,4 +1,5 @@
 -- A path outside the passing groups moves to a state: soundness stays, over what it looks at. Assumes nothing.
+use Rattle.std.proofs.Common.{Some}
 use mathlib.Core.Path.{◌≡◌, sym, ◌∙◌}
 use mathlib.Core.Bool.{true, false}
 use mathlib.Core.List.{List}
@@ -9,7 +10,6 @@ use Rattle.model.specs.Records.{is_passing}
 use Rattle.model.specs.View.{of, state_in, is_used, same_path}
 use Rattle.model.specs.declared.lane.Verdict.TheVariants.{Pass}
 use Rattle.model.specs.declared.lane.Progress.{Progress}
-use Rattle.model.specs.declared.lane.Stage.TheVariants.{InProgress}
 use Rattle.laws_sound.specs.Sound.{Seen, state_on, Mate, InWhole, AtRest, Passes, Sound}
 use Rattle.laws_sound.proofs.Paths.{same_together, same_sym, same_trans}
 use Rattle.laws_sound.proofs.Stranger.{stranger}
@@ -51,7 +51,7 @@ module _ (o : Seen) (S : Sound o) (l₀ : ℕ) (b₀ : l₀ < 8) (f₀ : is_pass
       (λ s. absurd (clash (same_together o.active l₀ l s).other u)) (λ s. s) in
       record { state = moved_out l b t ∙ R.state; pending = pending-out l b t ∙ R.pending }
 
-  passes-after : (l n : ℕ) (p : Progress) → l < 8 → o.stage l ≡ InProgress p → p.verdict ≡ Pass n → Passes o' p.group n
+  passes-after : (l n : ℕ) (p : Progress) → l < 8 → o.stage l ≡ Some p → p.verdict ≡ Pass n → Passes o' p.group n
   passes-after l n p b e q =
       let P : Passes o p.group n = S.passes l n p b e q in
       record {

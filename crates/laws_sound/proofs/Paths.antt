@@ -1,4 +1,5 @@
 -- Paths, and the sets of lanes that fill them. Over settings alone. Assumes nothing.
+use Rattle.std.proofs.Common.{None, Some, Option}
 use mathlib.Core.Path.{◌≡◌, refl, sym, ap, ◌∙◌}
 use mathlib.Core.Bool.{Bool, true, false}
 use mathlib.Core.List.{List}
@@ -15,8 +16,7 @@ use Rattle.model.specs.Records.{no_settings}
 use Rattle.model.specs.View.{of, app_sel, path_id, explicit, is_used, same_path, path_of, fills}
 use Rattle.model.specs.Work.{by_module, written_settings}
 use Rattle.model.specs.declared.lane.Settings.{Settings}
-use Rattle.model.specs.declared.application.Lookup.{Lookup}
-use Rattle.model.specs.declared.application.Lookup.TheVariants.{Missing, Found}
+use Rattle.model.specs.declared.application.Descriptor.{Descriptor}
 
 -- ---- two lanes on one path
 
@@ -58,13 +58,13 @@ within_first f n m e =
     let b : m < f + n = ltb-true m (f + n) (both_r _ _ e) in
     both_i (le-leb f f (omega arith)) (lt-ltb f (f + n) (omega arith))
 
-fills-set : (a : Lookup) (f g : ℕ) → fills a f g ≡ true → (n : ℕ) × (g ≡ mask_of 8 (within f n)) × (f + n ≤ 8)
+fills-set : (a : Option Descriptor) (f g : ℕ) → fills a f g ≡ true → (n : ℕ) × (g ≡ mask_of 8 (within f n)) × (f + n ≤ 8)
 unfolding fills
-fills-set Missing f g e = absurd (clash e refl)
-fills-set (Found d) f g e = (d.count, eqb-true _ _ (both_r _ _ (both_r _ _ e)), leb-true _ _ (both_l _ _ (both_r _ _ e)))
+fills-set None f g e = absurd (clash e refl)
+fills-set (Some d) f g e = (d.count, eqb-true _ _ (both_r _ _ (both_r _ _ e)), leb-true _ _ (both_l _ _ (both_r _ _ e)))
 
 -- the first lane of a path is its id
-pub fills_first : (a : Lookup) (f g m : ℕ) → fills a f g ≡ true → m < 8 → has g m ≡ true → (f < 8) × (has g f ≡ true)
+pub fills_first : (a : Option Descriptor) (f g m : ℕ) → fills a f g ≡ true → m < 8 → has g m ≡ true → (f < 8) × (has g f ≡ true)
 unfolding within
 fills_first a f g m e b i =
     let r = fills-set a f g e in
@@ -74,13 +74,13 @@ fills_first a f g m e b i =
     (h, ap (λ z. has z f) r.1 ∙ has-mask 8 (within f r.0) f h ∙ within_first f r.0 m t)
 
 -- one AppSel and one id fill one set
-pub fills_same : (a : Lookup) (f g k : ℕ) → fills a f g ≡ true → fills a f k ≡ true → g ≡ k
+pub fills_same : (a : Option Descriptor) (f g k : ℕ) → fills a f g ≡ true → fills a f k ≡ true → g ≡ k
 unfolding fills
-fills_same Missing f g k e h = absurd (clash e refl)
-fills_same (Found d) f g k e h = eqb-true _ _ (both_r _ _ (both_r _ _ e)) ∙ sym (eqb-true _ _ (both_r _ _ (both_r _ _ h)))
+fills_same None f g k e h = absurd (clash e refl)
+fills_same (Some d) f g k e h = eqb-true _ _ (both_r _ _ (both_r _ _ e)) ∙ sym (eqb-true _ _ (both_r _ _ (both_r _ _ h)))
 
 -- a filled set is what its eight lanes say
-pub fills_ext : (a : Lookup) (f g : ℕ) (c : ℕ → Bool) → fills a f g ≡ true → ((m : ℕ) → m < 8 → c m ≡ has g m) → mask_of 8 c ≡ g
+pub fills_ext : (a : Option Descriptor) (f g : ℕ) (c : ℕ → Bool) → fills a f g ≡ true → ((m : ℕ) → m < 8 → c m ≡ has g m) → mask_of 8 c ≡ g
 fills_ext a f g c e h =
     let r = fills-set a f g e in
     let l : g < 2 ^ 8 = rw r.1 (mask_lt 8 (within f r.0)) in

@@ -1,4 +1,5 @@
 -- The computed test of soundness and the propositions are the same. Assumes nothing.
+use Rattle.std.proofs.Common.{Option, None, Some}
 use mathlib.Core.Path.{◌≡◌, refl, sym, ap, ◌∙◌}
 use mathlib.Core.Bool.{Bool, true, false}
 use mathlib.Core.List.{List}
@@ -27,10 +28,8 @@ use Rattle.model.specs.declared.lane.StagedSet.TheVariants.{Set0, Set1}
 use Rattle.model.specs.declared.lane.Verdict.{Verdict}
 use Rattle.model.specs.declared.lane.Verdict.TheVariants.{Pass, Reject}
 use Rattle.model.specs.declared.lane.Progress.{Progress}
-use Rattle.model.specs.declared.lane.Stage.{Stage}
-use Rattle.model.specs.declared.lane.Stage.TheVariants.{Idle, InProgress}
 use Rattle.model.specs.declared.lane.Working.{Working}
-use Rattle.model.specs.declared.application.Lookup.{Lookup}
+use Rattle.model.specs.declared.application.Descriptor.{Descriptor}
 use Rattle.laws_frames.proofs.Registers.{settings_path}
 use Rattle.laws_sound.proofs.Paths.{same_together, used_app}
 use Rattle.laws_sound.specs.Sound.{Seen, seen_of, held, state_on, Mate, Grouped, InWhole, AtRest, OnePath, Passes, Sound, AllOnFit, AllSix}
@@ -129,23 +128,23 @@ unfolding not_copied
 copied-not g n m e = (both_l _ _ e, leb-true n m (both_r _ _ e))
 
 -- fewer lanes, with the same settings
-pub one_fewer : (apps : List Lookup) (h k : ℕ → Settings) (c d : ℕ → Bool) (g : ℕ) → ((m : ℕ) → m < 8 → d m ≡ true → (c m ≡ true) × (h m ≡ k m))
+pub one_fewer : (apps : List (Option Descriptor)) (h k : ℕ → Settings) (c d : ℕ → Bool) (g : ℕ) → ((m : ℕ) → m < 8 → d m ≡ true → (c m ≡ true) × (h m ≡ k m))
     → OnePath apps h c g → OnePath apps k d g
 one_fewer apps h k c d g e P = record {
   alike = λ m j bm bj dm dj u. rw (← (e m bm dm).1, ← (e j bj dj).1) (P.alike m j bm bj (e m bm dm).0 (e j bj dj).0 (rw (e m bm dm).1 u));
   whole = λ m b dm u. rw (← (e m b dm).1) (P.whole m b (e m b dm).0 (rw (e m b dm).1 u));
 }
 
-pub one_ext : (apps : List Lookup) (h k : ℕ → Settings) (c : ℕ → Bool) (g : ℕ) → ((m : ℕ) → m < 8 → h m ≡ k m) → OnePath apps h c g → OnePath apps k c g
+pub one_ext : (apps : List (Option Descriptor)) (h k : ℕ → Settings) (c : ℕ → Bool) (g : ℕ) → ((m : ℕ) → m < 8 → h m ≡ k m) → OnePath apps h c g → OnePath apps k c g
 one_ext apps h k c g e P = one_fewer apps h k c c g (λ m b t. (t, e m b)) P
 
-pub one_none : (apps : List Lookup) (h : ℕ → Settings) (c : ℕ → Bool) (g : ℕ) → ((m : ℕ) → m < 8 → c m ≡ true → is_used (h m) ≡ false) → OnePath apps h c g
+pub one_none : (apps : List (Option Descriptor)) (h : ℕ → Settings) (c : ℕ → Bool) (g : ℕ) → ((m : ℕ) → m < 8 → c m ≡ true → is_used (h m) ≡ false) → OnePath apps h c g
 one_none apps h c g n = record {
   alike = λ m j bm bj cm cj u. absurd (clash u (n m bm cm));
   whole = λ m b cm u. absurd (clash u (n m b cm));
 }
 
-module _ (apps : List Lookup) (hs : List Settings) (c : ℕ → Bool) (f g : ℕ) where
+module _ (apps : List (Option Descriptor)) (hs : List Settings) (c : ℕ → Bool) (f g : ℕ) where
   make_shares : make_path apps hs c f g ≡ true → (m : ℕ) → m < 8 → c m ≡ true
       → (app_sel (of hs m) ≡ app_sel (of hs f)) × (path_id (of hs m) ≡ path_id (of hs f))
   unfolding make_path share
@@ -177,10 +176,10 @@ module _ (x : Image) (w : Working) (l : ℕ) (b : l < 8) where
   abbrev v : View
   v = view_of staged_set0 x
 
-  mate_e : (p : Progress) (s : Stage) → agrees p s ≡ true → Mate p s
+  mate_e : (p : Progress) (s : Option Progress) → agrees p s ≡ true → Mate p s
   unfolding agrees
-  mate_e p Idle e = absurd (clash e refl)
-  mate_e p (InProgress q) e = record {
+  mate_e p None e = absurd (clash e refl)
+  mate_e p (Some q) e = record {
     its = q;
     stage = refl;
     group = sym (eqb-true _ _ (both_l _ _ e));
@@ -202,7 +201,7 @@ module _ (x : Image) (w : Working) (l : ℕ) (b : l < 8) where
     | inr t ↦ let z : k < 8 = ltb-true _ _ (both_l _ _ t) in (omega arith, λ h. both_r _ _ t)
   ])
 
-  grouped_e : (p : Progress) → stage_fits w l (InProgress p) ≡ true → Grouped o l p
+  grouped_e : (p : Progress) → stage_fits w l (Some p) ≡ true → Grouped o l p
   unfolding stage_fits settings_fit
   grouped_e p e = record {
     own = both_l _ _ (both_l _ _ e);
@@ -306,15 +305,15 @@ five_e s t = record {
     outside : (l : ℕ) → l < 8 → is_passing (stage_at w l) ≡ false → outside_passing x (view_of staged_set0 x) w l ≡ true
     outside l b f = implies_use _ _ (both_l _ _ (both_r _ _ (at l b))) (rw f)
 
-    fit : (l : ℕ) (p : Progress) → l < 8 → stage_at w l ≡ InProgress p → stage_fits w l (InProgress p) ≡ true
+    fit : (l : ℕ) (p : Progress) → l < 8 → stage_at w l ≡ Some p → stage_fits w l (Some p) ≡ true
     fit l p b e = rw e at (both_r _ _ (both_l _ _ (at l b)))
 
-    fits : (l : ℕ) (p : Progress) → l < 8 → stage_at w l ≡ InProgress p → passing_fits (view_of staged_set0 x) w p.group p.verdict ≡ true
+    fits : (l : ℕ) (p : Progress) → l < 8 → stage_at w l ≡ Some p → passing_fits (view_of staged_set0 x) w p.group p.verdict ≡ true
     fits l p b e = rw e at (both_r _ _ (both_r _ _ (at l b)))
 
 -- ---- and the propositions pass the test
 module _ (s : State) (S : Sound (seen_of s)) (l : ℕ) (b : l < 8) where
-  mate_i : (p : Progress) (t : Stage) → Mate p t → agrees p t ≡ true
+  mate_i : (p : Progress) (t : Option Progress) → Mate p t → agrees p t ≡ true
   unfolding agrees
   mate_i p t M = rw M.stage (both_i (eq-eqb _ _ (sym M.group))
       (both_i (rw M.trigger (trigger-same p.trigger)) (both_i (rw M.set (set_same p.set)) (rw M.verdict (verdict-same p.verdict)))))
@@ -327,10 +326,10 @@ module _ (s : State) (S : Sound (seen_of s)) (l : ℕ) (b : l < 8) where
       (λ t. either_i_r _ _ (both_i t ((h n refl).1 (ltb-true _ _ t))))
       (λ t. either_i_l _ _ (eq-eqb n 8 (omega (arith, ltb-false n 8 t, (h n refl).0))))
 
-  stage_i : (t : Stage) → stage_at s.working l ≡ t → stage_fits s.working l t ≡ true
+  stage_i : (t : Option Progress) → stage_at s.working l ≡ t → stage_fits s.working l t ≡ true
   unfolding stage_fits settings_fit
-  stage_i Idle e = refl
-  stage_i (InProgress p) e = let G : Grouped (seen_of s) l p = S.grouped l p b e in
+  stage_i None e = refl
+  stage_i (Some p) e = let G : Grouped (seen_of s) l p = S.grouped l p b e in
       both_i (both_i G.own (every_i _ _ (λ m bm i. mate_i p (stage_at s.working m) (G.mate m bm i))))
       (both_i (all_intro 8 _ (λ k h. lt-ltb _ _ (G.fits k h))) (verdict_i p.group p.verdict G.code G.next))
 
@@ -407,10 +406,10 @@ module _ (s : State) (S : Sound (seen_of s)) (l : ℕ) (b : l < 8) where
   passing_i g (Pass n) i h = let P : Passes (seen_of s) g n = h n refl in
       both_i (both_i (purpose_i g n i P) (rests_i g n i P)) (both_i (copied_i g n i P) (remain_i g n i P))
 
-  group_i : (t : Stage) → stage_at s.working l ≡ t → group_fits (view_of staged_set0 s.image) s.working t ≡ true
+  group_i : (t : Option Progress) → stage_at s.working l ≡ t → group_fits (view_of staged_set0 s.image) s.working t ≡ true
   unfolding group_fits
-  group_i Idle e = refl
-  group_i (InProgress p) e = passing_i p.group p.verdict (S.grouped l p b e).own (λ n q. S.passes l n p b e q)
+  group_i None e = refl
+  group_i (Some p) e = passing_i p.group p.verdict (S.grouped l p b e).own (λ n q. S.passes l n p b e q)
 
   lane_i : lane_sound s.image (view_of staged_set0 s.image) s.working l ≡ true
   unfolding lane_sound status_tells

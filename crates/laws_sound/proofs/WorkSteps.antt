@@ -1,4 +1,5 @@
 -- A work step keeps the invariant: it copies a lane or closes a group. Assumes nothing.
+use Rattle.std.proofs.Common.{None, Some, Option}
 use mathlib.Core.Path.{◌≡◌, refl, sym, ◌∙◌}
 use mathlib.Core.Bool.{Bool, true, false}
 use mathlib.Core.Logic.{inl, ◌≢◌}
@@ -24,8 +25,6 @@ use Rattle.model.specs.declared.lane.Trigger.TheVariants.{DpInit, Immediate}
 use Rattle.model.specs.declared.lane.Verdict.{Verdict}
 use Rattle.model.specs.declared.lane.Verdict.TheVariants.{Pass, Reject}
 use Rattle.model.specs.declared.lane.Progress.{Progress}
-use Rattle.model.specs.declared.lane.Stage.{Stage}
-use Rattle.model.specs.declared.lane.Stage.TheVariants.{Idle, InProgress}
 use Rattle.laws_frames.proofs.Outside.{outside_refl, below_range, above_range}
 use Rattle.laws_frames.proofs.Registers.{settings-same, states-same, advertised_below, applications-same, status-same, pending-same}
 use Rattle.laws_frames.proofs.Changes.{status_outside, pending_outside, copy_outside}
@@ -43,7 +42,7 @@ pub settings-lane : (base : ℕ) (x : Image) (l : ℕ) → l < 8 → of (setting
 unfolding settings_of
 settings-lane base x l b = tab_at 8 (settings_at base x) l no_settings b
 
-held_fits : (s : Stage) (p : Progress) → s ≡ InProgress p → Fits p.held → Fits (held_in s)
+held_fits : (s : Option Progress) (p : Progress) → s ≡ Some p → Fits p.held → Fits (held_in s)
 unfolding held_in
 held_fits s p e f = rw e f
 
@@ -67,7 +66,7 @@ pending_cleared : (r : Bool) (t : Trigger) (g l : ℕ) (x : Image) → r ≡ tru
 unfolding pending_after
 pending_cleared r t g l x q n bl i = rw (q, pending_after) (pending_in x l n bl (has g) 0 (omega arith) i)
 
-module _ (two : ℕ) (s : State) (W : Well two s) (k : ℕ) (p : Progress) (b : k < 8) (e : stage_at s.working k ≡ InProgress p) where
+module _ (two : ℕ) (s : State) (W : Well two s) (k : ℕ) (p : Progress) (b : k < 8) (e : stage_at s.working k ≡ Some p) where
   -- ---- closing, once the pending bits are written
   module _ (z : Image) (code : ℕ) (pends : SameOutside pending_byte pending_end s.image z) (low : code < in_progress)
       (others : (l : ℕ) → l < 8 → has p.group l ≡ false → get z (pending_at l) ≡ get s.image (pending_at l))
@@ -189,10 +188,10 @@ module _ (two : ℕ) (s : State) (W : Well two s) (k : ℕ) (p : Progress) (b : 
       (λ h. rw (pick_true _ _ h) (copied_well n q (ltb-true n 8 h)))
       (λ h. rw (pick-false _ _ h) (pass_well n q (ltb-false n 8 h) p.trigger))
 
-stage_well : (two : ℕ) (s : State) (l : ℕ) → Well two s → l < 8 → (t : Stage) → stage_at s.working l ≡ t → Well two (work_effect_on t early s).state
+stage_well : (two : ℕ) (s : State) (l : ℕ) → Well two s → l < 8 → (t : Option Progress) → stage_at s.working l ≡ t → Well two (work_effect_on t early s).state
 unfolding work_effect_on
-stage_well two s l W b Idle e = W
-stage_well two s l W b (InProgress p) e = verdict_well two s W l p b e p.verdict refl
+stage_well two s l W b None e = W
+stage_well two s l W b (Some p) e = verdict_well two s W l p b e p.verdict refl
 
 pub work_well : (two : ℕ) (s : State) (l : ℕ) → Well two s → l < 8 → Well two (work_effect early s l).state
 unfolding work_effect

@@ -1,5 +1,5 @@
 -- Soundness in propositions: (a) to (e) of document 01, over what they look at and no more; and (f), what is on (02 Req 02).
-use Rattle.std.specs.Prelude.{◌≡◌, Bool, true, false, List, ℕ, ◌^◌, ◌≤◌, ◌<◌, eqb}
+use Rattle.std.specs.Prelude.{◌≡◌, Bool, true, false, List, ℕ, ◌^◌, ◌≤◌, ◌<◌, eqb, Option, Some}
 use Rattle.bits.specs.Place.{get}
 use Rattle.bits.specs.Sets.{has}
 use Rattle.model.specs.Map.{Image, active_set, status_at, pending_at, flag_at, lasting_count, lasting_flag}
@@ -14,17 +14,15 @@ use Rattle.model.specs.Sound.{not_copied}
 use Rattle.model.specs.declared.lane.Settings.{Settings}
 use Rattle.model.specs.declared.lane.Verdict.TheVariants.{Pass, Reject}
 use Rattle.model.specs.declared.lane.Progress.{Progress}
-use Rattle.model.specs.declared.lane.Stage.{Stage}
-use Rattle.model.specs.declared.lane.Stage.TheVariants.{InProgress}
-use Rattle.model.specs.declared.application.Lookup.{Lookup}
+use Rattle.model.specs.declared.application.Descriptor.{Descriptor}
 use Rattle.laws_frames.specs.Frames.{Fits}
 
 -- what soundness looks at: the lanes' stages, active settings, states, statuses and pending bits, and the Applications
 pub record Seen : Type 0 where
-  pub stage : ℕ → Stage
+  pub stage : ℕ → Option Progress
   pub active : List Settings
   pub states : List ℕ
-  pub applications : List Lookup
+  pub applications : List (Option Descriptor)
   pub status : ℕ → ℕ
   pub pending : ℕ → ℕ
 
@@ -49,9 +47,9 @@ state_on o l = state_in o.states l
 -- ---- (b) lanes of one group agree, and the group holds exactly them
 
 -- a stage of the same group, trigger, staged set, verdict and next lane
-pub record Mate (p : Progress) (s : Stage) : Type 0 where
+pub record Mate (p : Progress) (s : Option Progress) : Type 0 where
   pub its : Progress
-  pub stage : s ≡ InProgress its
+  pub stage : s ≡ Some its
   pub group : its.group ≡ p.group
   pub trigger : its.trigger ≡ p.trigger
   pub set : its.set ≡ p.set
@@ -82,7 +80,7 @@ pub record AtRest (o : Seen) (l : ℕ) : Type 0 where
 -- ---- (e) a passing group
 
 -- the lanes of c are all unused, or share an AppSel and a DataPathID whose whole path is the set g
-pub record OnePath (applications : List Lookup) (settings : ℕ → Settings) (c : ℕ → Bool) (g : ℕ) : Type 0 where
+pub record OnePath (applications : List (Option Descriptor)) (settings : ℕ → Settings) (c : ℕ → Bool) (g : ℕ) : Type 0 where
   pub alike : (m k : ℕ) → m < 8 → k < 8 → c m ≡ true → c k ≡ true → is_used (settings m) ≡ true
       → (app_sel (settings k) ≡ app_sel (settings m)) × (path_id (settings k) ≡ path_id (settings m))
   pub whole : (m : ℕ) → m < 8 → c m ≡ true → is_used (settings m) ≡ true
@@ -100,10 +98,10 @@ pub record Passes (o : Seen) (g n : ℕ) : Type 0 where
 
 pub record Sound (o : Seen) : Type 0 where
   pub told : (l : ℕ) → l < 8 → eqb (o.status l) in_progress ≡ is_in_progress (o.stage l)
-  pub grouped : (l : ℕ) (p : Progress) → l < 8 → o.stage l ≡ InProgress p → Grouped o l p
+  pub grouped : (l : ℕ) (p : Progress) → l < 8 → o.stage l ≡ Some p → Grouped o l p
   pub used : (l : ℕ) → l < 8 → is_passing (o.stage l) ≡ false → is_used (of o.active l) ≡ true → InWhole o l
   pub unused : (l : ℕ) → l < 8 → is_passing (o.stage l) ≡ false → is_used (of o.active l) ≡ false → AtRest o l
-  pub passes : (l n : ℕ) (p : Progress) → l < 8 → o.stage l ≡ InProgress p → p.verdict ≡ Pass n → Passes o p.group n
+  pub passes : (l n : ℕ) (p : Progress) → l < 8 → o.stage l ≡ Some p → p.verdict ≡ Pass n → Passes o p.group n
 
 -- ---- (f) a lane's on bits name only flags that can last, and a flag that is on is 1
 

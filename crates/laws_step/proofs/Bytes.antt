@@ -1,4 +1,5 @@
 -- The bytes of a write, one after another: what any part of them changes. Assumes nothing.
+use Rattle.std.proofs.Common.{None, Some, Option, ℕ}
 use mathlib.Core.Path.{◌≡◌, refl, sym, ap, ◌∙◌}
 use mathlib.Core.Bool.{true, false, not}
 use mathlib.Core.List.{List, [], ◌∷◌}
@@ -19,8 +20,6 @@ use Rattle.model.specs.Access.{without_reset, stored_state, byte_written_state, 
 use Rattle.model.specs.declared.lane.Trigger.{Trigger}
 use Rattle.model.specs.declared.lane.StagedSet.{StagedSet}
 use Rattle.model.specs.declared.lane.Working.{Working}
-use Rattle.model.specs.declared.page.PageStart.{PageStart}
-use Rattle.model.specs.declared.page.PageStart.TheVariants.{Unsupported, At}
 use Rattle.model.proofs.Starts.{start_past}
 use Rattle.laws_frames.proofs.Stored.{stored_cases}
 use Rattle.laws_step.specs.Changes.{ChangesOnly, or_in, in_bytes, status_set}
@@ -86,10 +85,10 @@ module _ (from to : ℕ) where
     unfolding in_bytes written_bytes
     select_byte x i v e = keeps_set _ x i v (λ b. either_i_r _ _ (both_i (here 127 lo hi) e))
 
-    page_by : (s : State) (p : PageStart) (v : ℕ) → ChangesOnly (in_bytes (written_bytes from to)) s.image (with_page p v s.image)
+    page_by : (s : State) (p : Option ℕ) (v : ℕ) → ChangesOnly (in_bytes (written_bytes from to)) s.image (with_page p v s.image)
     unfolding either
-    page_by s Unsupported v = keeps_then (select_byte s.image bank_select 0 refl) (select_byte _ page_select 0 refl)
-    page_by s (At start) v = select_byte s.image page_select v refl
+    page_by s None v = keeps_then (select_byte s.image bank_select 0 refl) (select_byte _ page_select 0 refl)
+    page_by s (Some start) v = select_byte s.image page_select v refl
 
   trigger_by : (t : Trigger) (set : StagedSet) (s : State) (v : ℕ) → Written from to s (triggered_state t set s v)
   unfolding write_set status_set newly_marked is_in_progress

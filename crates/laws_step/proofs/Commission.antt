@@ -1,4 +1,5 @@
 -- A commission mask other than 0 comes from the closing step of an ApplyImmediate alone, and is its group. Assumes nothing.
+use Rattle.std.proofs.Common.{None, Some, Option}
 use mathlib.Core.Path.{◌≡◌, refl}
 use mathlib.Core.Bool.{Bool, true, false}
 use mathlib.Core.List.{List}
@@ -26,8 +27,6 @@ use Rattle.model.specs.declared.lane.Trigger.TheVariants.{DpInit, Immediate}
 use Rattle.model.specs.declared.lane.Verdict.{Verdict}
 use Rattle.model.specs.declared.lane.Verdict.TheVariants.{Pass, Reject}
 use Rattle.model.specs.declared.lane.Progress.{Progress}
-use Rattle.model.specs.declared.lane.Stage.{Stage}
-use Rattle.model.specs.declared.lane.Stage.TheVariants.{Idle, InProgress}
 use Rattle.model.specs.declared.path.PathState.TheVariants.{Activated, Initialized}
 use Rattle.laws_step.specs.Told.{step_on, Commissions}
 use Rattle.laws_step.proofs.Stepped.{work_done}
@@ -61,7 +60,7 @@ module _ (s : State) where
       (λ e. (refl, refl, e, rw (e, pick)))
       (λ e. absurd (n (rw (e, pick))))
 
-  module _ (l : ℕ) (p : Progress) (i : stage_at s.working l ≡ InProgress p) where
+  module _ (l : ℕ) (p : Progress) (i : stage_at s.working l ≡ Some p) where
     verdict-told : (v : Verdict) → p.verdict ≡ v → (work_effect_by v early s p.group p.trigger).mask ≢ 0
         → Commissions s l p × ((work_effect_by v early s p.group p.trigger).mask ≡ p.group)
     unfolding work_effect_by closing_effect pick
@@ -81,11 +80,11 @@ module _ (s : State) where
           rw (b, pick) t.3,
         ))
 
-  stage-told : (l : ℕ) (g : Stage) → stage_at s.working l ≡ g → (work_effect_on g early s).mask ≢ 0
+  stage-told : (l : ℕ) (g : Option Progress) → stage_at s.working l ≡ g → (work_effect_on g early s).mask ≢ 0
       → (p : Progress) × Commissions s l p × ((work_effect_on g early s).mask ≡ p.group)
   unfolding work_effect_on
-  stage-told l Idle i n = absurd (n refl)
-  stage-told l (InProgress p) i n = let r = verdict-told l p i p.verdict refl n in (p, r.0, r.1)
+  stage-told l None i n = absurd (n refl)
+  stage-told l (Some p) i n = let r = verdict-told l p i p.verdict refl n in (p, r.0, r.1)
 
   call-told : (bytes : List ℕ) (c : Call) → (event_effect early s bytes c).mask ≢ 0
       → (l : ℕ) × (p : Progress) × (c ≡ Work l) × Commissions s l p × ((event_effect early s bytes c).mask ≡ p.group)

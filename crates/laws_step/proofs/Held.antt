@@ -1,4 +1,5 @@
 -- Soundness tells that held settings, and what copying writes of them, fit their fields, and what a verdict may hold. Assumes nothing.
+use Rattle.std.proofs.Common.{None, Some, Option}
 use mathlib.Core.Path.{◌≡◌, refl}
 use mathlib.Core.Bool.{true}
 use mathlib.Core.Logic.{inl, inr}
@@ -21,8 +22,6 @@ use Rattle.model.specs.Sound.{settings_fit, verdict_fits, stage_fits, lane_sound
 use Rattle.model.specs.declared.lane.Settings.{Settings}
 use Rattle.model.specs.declared.lane.Verdict.TheVariants.{Pass, Reject}
 use Rattle.model.specs.declared.lane.Progress.{Progress}
-use Rattle.model.specs.declared.lane.Stage.{Stage}
-use Rattle.model.specs.declared.lane.Stage.TheVariants.{Idle, InProgress}
 use Rattle.model.specs.declared.lane.Working.{Working}
 
 stage-fits : (s : State) (l : ℕ) → is_sound s ≡ true → l < 8 → stage_fits s.working l (stage_at s.working l) ≡ true
@@ -30,7 +29,7 @@ unfolding is_sound lane_sound
 stage-fits s l o h = both_r _ _ (both_l _ _ (both_l _ _ (all_at 8 _ o l h)))
 
 -- a rejection's code is 2 to 7
-pub code_fits : (s : State) (l : ℕ) (p : Progress) (code : ℕ) → is_sound s ≡ true → l < 8 → stage_at s.working l ≡ InProgress p → p.verdict ≡ Reject code
+pub code_fits : (s : State) (l : ℕ) (p : Progress) (code : ℕ) → is_sound s ≡ true → l < 8 → stage_at s.working l ≡ Some p → p.verdict ≡ Reject code
     → (2 ≤ code) × (code ≤ 7)
 unfolding stage_fits verdict_fits
 code_fits s l p code o h i v =
@@ -39,7 +38,7 @@ code_fits s l p code o h i v =
     (leb-true 2 code (both_l _ _ f), leb-true code 7 (both_r _ _ f))
 
 -- a pass's next lane is one of the group or the end
-pub next_fits : (s : State) (l : ℕ) (p : Progress) (n : ℕ) → is_sound s ≡ true → l < 8 → stage_at s.working l ≡ InProgress p → p.verdict ≡ Pass n
+pub next_fits : (s : State) (l : ℕ) (p : Progress) (n : ℕ) → is_sound s ≡ true → l < 8 → stage_at s.working l ≡ Some p → p.verdict ≡ Pass n
     → n < 8 → has p.group n ≡ true
 unfolding stage_fits verdict_fits
 next_fits s l p n o h i v b =
@@ -52,10 +51,10 @@ nothing_fits : settings_fit no_settings ≡ true
 unfolding settings_fit setting_values all_below both
 nothing_fits = refl
 
-held_by : (w : Working) (l : ℕ) (g : Stage) → stage_fits w l g ≡ true → settings_fit (held_in g) ≡ true
+held_by : (w : Working) (l : ℕ) (g : Option Progress) → stage_fits w l g ≡ true → settings_fit (held_in g) ≡ true
 unfolding stage_fits held_in
-held_by w l Idle f = nothing_fits
-held_by w l (InProgress p) f = both_l _ _ (both_r _ _ f)
+held_by w l None f = nothing_fits
+held_by w l (Some p) f = both_l _ _ (both_r _ _ f)
 
 written_by : (h : Settings) → settings_fit h ≡ true → settings_fit (written_settings h) ≡ true
 unfolding settings_fit written_settings by_module setting_values all_below both pick

@@ -1,4 +1,5 @@
 -- No event but a reset changes a byte outside changedRanges, but a command lower 37; and most change neither the module's state nor DPState. Assumes nothing.
+use Rattle.std.proofs.Common.{None, Some, Option}
 use mathlib.Core.Path.{◌≡◌, refl, sym, ap, subst}
 use mathlib.Core.Bool.{Bool, true, false, not}
 use mathlib.Core.List.{List, ◌∷◌}
@@ -33,8 +34,6 @@ use Rattle.model.specs.declared.event.Event.{Event}
 use Rattle.model.specs.declared.lane.Verdict.{Verdict}
 use Rattle.model.specs.declared.lane.Verdict.TheVariants.{Pass, Reject}
 use Rattle.model.specs.declared.lane.Progress.{Progress}
-use Rattle.model.specs.declared.lane.Stage.{Stage}
-use Rattle.model.specs.declared.lane.Stage.TheVariants.{Idle, InProgress}
 use Rattle.model.specs.declared.lane.Working.{Working}
 use Rattle.laws.proofs.Unchanged.{done_is}
 use Rattle.laws_frames.specs.Frames.{is_reset}
@@ -248,7 +247,7 @@ calm : {x y : Image} (may : Bits) → Within calm_ranges may → ChangesOnly (or
 calm may w k = record { may = may; within = within_calm false may w; changes = k }
 
 module _ (room : ℕ) (s : State) (bytes : List ℕ) where
-  work_calm : (l : ℕ) (p : Progress) (v : Verdict) → l < 8 → stage_at s.working l ≡ InProgress p → p.verdict ≡ v
+  work_calm : (l : ℕ) (p : Progress) (v : Verdict) → l < 8 → stage_at s.working l ≡ Some p → p.verdict ≡ v
       → Calm false s.image (step_on room s (Work l) bytes).state.image
   work_calm l p (Reject code) h i v = calm _ (within-status _) (rejected_changes room s bytes l p h i code v)
   work_calm l p (Pass n) h i v = elim (dec_lt n 8) [
@@ -256,11 +255,11 @@ module _ (room : ℕ) (s : State) (bytes : List ℕ) where
     | no b ↦ calm _ (within_or calm_ranges _ _ (within-status _) (within-pending _)) (passed_changes room s bytes l p h i n v (omega arith))
   ]
 
-  stage_calm : (l : ℕ) (g : Stage) → stage_at s.working l ≡ g → is_in_progress g ≡ true → l < 8
+  stage_calm : (l : ℕ) (g : Option Progress) → stage_at s.working l ≡ g → is_in_progress g ≡ true → l < 8
       → Calm false s.image (step_on room s (Work l) bytes).state.image
   unfolding is_in_progress
-  stage_calm l Idle i t h = absurd (clash t refl)
-  stage_calm l (InProgress p) i t h = work_calm l p p.verdict h i refl
+  stage_calm l None i t h = absurd (clash t refl)
+  stage_calm l (Some p) i t h = work_calm l p p.verdict h i refl
 
   write_calm : (address count : ℕ) → is_reset bytes (Write address count) ≡ false → (step_on room s (Write address count) bytes).answer ≡ Done
       → Calm (runs_command address count s.image) s.image (step_on room s (Write address count) bytes).state.image

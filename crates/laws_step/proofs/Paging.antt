@@ -1,4 +1,5 @@
 -- The page rule: what a write that includes 127 leaves in 126 and 127. Assumes nothing.
+use Rattle.std.proofs.Common.{None, Some}
 use mathlib.Core.Path.{◌≡◌, refl, sym, ap, ◌∙◌}
 use mathlib.Core.Bool.{Bool, true, false}
 use mathlib.Core.List.{List, [], ◌∷◌}
@@ -22,7 +23,6 @@ use Rattle.model.specs.Flags.{settled_image}
 use Rattle.model.specs.Step.{event, event_effect, done_step}
 use Rattle.model.specs.declared.answer.Answer.TheVariants.{Done}
 use Rattle.model.specs.declared.event.Call.TheVariants.{Write}
-use Rattle.model.specs.declared.page.PageStart.TheVariants.{Unsupported, At}
 use Rattle.model.proofs.Starts.{is_page, found}
 use Rattle.laws_step.specs.Told.{step_on, is_supported, bank_at, PageRule}
 use Rattle.laws_step.proofs.Settling.{settled_byte}
@@ -68,14 +68,14 @@ supported-listed bank page = rw (ltb_any 3 page) (simp (either_assoc, both_alway
 -- ---- bytes 126 and 127 after a byte v to 127
 
 module _ (x : Image) (v : ℕ) (size : length x ≡ image_length) where
-  found_page : (start : ℕ) → page_start (get_or x 126 0) v ≡ At start → (get_or (selected_image v x) 127 0 ≡ v) × (get_or (selected_image v x) 126 0 ≡ get_or x 126 0)
+  found_page : (start : ℕ) → page_start (get_or x 126 0) v ≡ Some start → (get_or (selected_image v x) 127 0 ≡ v) × (get_or (selected_image v x) 126 0 ≡ get_or x 126 0)
   unfolding selected_image
   found_page start e = (
     rw (e, with_page) (get_or-set_same x 127 v 0 (omega arith)),
     rw (e, with_page) (get_or-set_other x 127 126 v 0 (omega arith)),
   )
 
-  reset_page : page_start (get_or x 126 0) v ≡ Unsupported → (get_or (selected_image v x) 127 0 ≡ 0) × (get_or (selected_image v x) 126 0 ≡ 0)
+  reset_page : page_start (get_or x 126 0) v ≡ None → (get_or (selected_image v x) 127 0 ≡ 0) × (get_or (selected_image v x) 126 0 ≡ 0)
   unfolding selected_image
   reset_page e = (
     rw (e, with_page) (get_or-set_same (set x 126 0) 127 0 0 (omega (arith, length-set x 126 0))),

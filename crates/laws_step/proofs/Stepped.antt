@@ -1,4 +1,5 @@
 -- A step that is done is the event carried out and lower 3.0 settled; one that is refused is nothing. Assumes nothing.
+use Rattle.std.proofs.Common.{Some}
 use mathlib.Core.Path.{◌≡◌, refl, ap}
 use mathlib.Core.Bool.{Bool, true, false, not}
 use mathlib.Core.List.{List, [], ◌∷◌}
@@ -18,7 +19,6 @@ use Rattle.model.specs.declared.answer.Answer.TheVariants.{Done, NoSuchTarget, N
 use Rattle.model.specs.declared.event.Call.TheVariants.{Work}
 use Rattle.model.specs.declared.event.Event.{Event}
 use Rattle.model.specs.declared.lane.Progress.{Progress}
-use Rattle.model.specs.declared.lane.Stage.TheVariants.{InProgress}
 use Rattle.laws.proofs.Unchanged.{done_is}
 use Rattle.laws_step.specs.Changes.{Bits, ChangesOnly, or_in, interrupt_set}
 use Rattle.laws_step.specs.Told.{step_on}
@@ -55,7 +55,7 @@ module _ (room : ℕ) (s : State) (e : Event) where
   step_changes may d k = rw (done_step_lem d) (keeps_then (keeps_right interrupt_set k) (keeps_left may (settled_changes _)))
 
 -- a lane in progress is worked on
-pub work_done : (room : ℕ) (s : State) (bytes : List ℕ) (l : ℕ) (p : Progress) → l < 8 → stage_at s.working l ≡ InProgress p
+pub work_done : (room : ℕ) (s : State) (bytes : List ℕ) (l : ℕ) (p : Progress) → l < 8 → stage_at s.working l ≡ Some p
     → step_on room s (Work l) bytes ≡ done_step Done (work_effect_by p.verdict early s p.group p.trigger)
 unfolding step answered_step event_refusals first_of no_such_lane is_in_progress is_done event_effect work_effect work_effect_on pick
 work_done room s bytes l p h i = rw (lt-ltb l 8 h, i, is_in_progress, pick, work_effect_on)

@@ -1,4 +1,5 @@
 -- A work step on a lane in progress: a rejection closes in one step, and a pass copies one lane a step, ascending, and then closes. Assumes nothing.
+use Rattle.std.proofs.Common.{Some}
 use mathlib.Core.Path.{◌≡◌, refl, ap, ◌∙◌}
 use mathlib.Core.Bool.{Bool, true, false}
 use mathlib.Core.List.{List, [], ◌∷◌}
@@ -30,7 +31,6 @@ use Rattle.model.specs.declared.lane.Trigger.{Trigger}
 use Rattle.model.specs.declared.lane.Trigger.TheVariants.{DpInit, Immediate}
 use Rattle.model.specs.declared.lane.Verdict.TheVariants.{Pass, Reject}
 use Rattle.model.specs.declared.lane.Progress.{Progress}
-use Rattle.model.specs.declared.lane.Stage.TheVariants.{InProgress}
 use Rattle.laws_frames.proofs.Ranges.{covered_by}
 use Rattle.laws_step.specs.Changes.{ChangesOnly, or_in, interrupt_set, status_set, pending_set, active_of}
 use Rattle.laws_step.specs.Told.{Settled, worked, Closed, CopiedLane, pending_then}
@@ -124,7 +124,7 @@ settings-read h l x size b f =
 
 -- ---- the step
 
-module _ (room : ℕ) (s : State) (bytes : List ℕ) (l : ℕ) (p : Progress) (h : l < 8) (i : stage_at s.working l ≡ InProgress p) where
+module _ (room : ℕ) (s : State) (bytes : List ℕ) (l : ℕ) (p : Progress) (h : l < 8) (i : stage_at s.working l ≡ Some p) where
   module _ (code : ℕ) (v : p.verdict ≡ Reject code) where
     reject_is : worked room s bytes l
         ≡ with_image (closed_state s.image s.working p.group code) (settled_image (closed_state s.image s.working p.group code).image)

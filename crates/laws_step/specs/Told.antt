@@ -1,5 +1,5 @@
 -- What is told of single events: the words of the theorems over the step.
-use Rattle.std.specs.Prelude.{◌≡◌, Bool, true, false, not, List, [], ◌∷◌, ◌++◌, ◌⊎◌, ◌≢◌, ℕ, suc, ◌+◌, ◌-◌, ◌*◌, ◌≤◌, ◌<◌, eqb, leb, ltb, length, get_or, take}
+use Rattle.std.specs.Prelude.{◌≡◌, Bool, true, false, not, List, [], ◌∷◌, ◌++◌, ◌⊎◌, ◌≢◌, ℕ, suc, ◌+◌, ◌-◌, ◌*◌, ◌≤◌, ◌<◌, eqb, leb, ltb, length, get_or, take, None, Some, Option}
 use Rattle.bits.specs.Choice.{pick, only_if, both, either}
 use Rattle.bits.specs.Loop.{Among}
 use Rattle.bits.specs.Place.{get, digit, covers}
@@ -28,8 +28,6 @@ use Rattle.model.specs.declared.lane.StagedSet.{StagedSet}
 use Rattle.model.specs.declared.lane.Trigger.TheVariants.{DpInit, Immediate}
 use Rattle.model.specs.declared.lane.Verdict.TheVariants.{Pass}
 use Rattle.model.specs.declared.lane.Progress.{Progress}
-use Rattle.model.specs.declared.lane.Stage.{Stage}
-use Rattle.model.specs.declared.lane.Stage.TheVariants.{Idle, InProgress}
 use Rattle.model.specs.declared.lane.Working.{Working}
 use Rattle.model.specs.declared.path.PathState.{PathState}
 use Rattle.model.specs.declared.path.PathState.TheVariants.{Deactivated, Activated, TxTurnOn, Initialized}
@@ -73,9 +71,9 @@ unfoldable pub marks : Trigger → StagedSet → State → ℕ → ℕ → Bool
 marks t set s selected l = both (not (is_ignored t s.image)) (is_marked (view_of (staged_base set) s.image) s.working selected l)
 
 -- the stage that it leaves lane l at: in progress, by that trigger, from that staged set, with that set's settings of the lane
-pub record MarkedFrom (t : Trigger) (staged : StagedSet) (s : State) (l : ℕ) (after : Stage) : Type 0 where
+pub record MarkedFrom (t : Trigger) (staged : StagedSet) (s : State) (l : ℕ) (after : Option Progress) : Type 0 where
   pub its : Progress
-  pub stage : after ≡ InProgress its
+  pub stage : after ≡ Some its
   pub trigger : its.trigger ≡ t
   pub set : its.set ≡ staged
   pub held : its.held ≡ settings_at (staged_base staged) s.image l
@@ -170,7 +168,7 @@ worked room s bytes l = (step_on room s (Work l) bytes).state
 -- a group has closed with a status: its lanes show it and are idle, and every other lane keeps its record
 pub record Closed (g code : ℕ) (before after : State) : Type 0 where
   pub status : (m : ℕ) → m < lane_count → has g m ≡ true → get after.image (status_at m) ≡ code
-  pub idle : (m : ℕ) → m < lane_count → has g m ≡ true → stage_at after.working m ≡ Idle
+  pub idle : (m : ℕ) → m < lane_count → has g m ≡ true → stage_at after.working m ≡ None
   pub others : (m : ℕ) → m < lane_count → has g m ≡ false → stage_at after.working m ≡ stage_at before.working m
 
 -- DPInitPending of a lane whose group closes: a release clears it, else ApplyDPInit sets it and ApplyImmediate leaves it
@@ -192,7 +190,7 @@ pub record CopiedLane (g n : ℕ) (before after : State) : Type 0 where
 -- its state is DPInitialized or DPActivated
 pub record Commissions (s : State) (lane : ℕ) (p : Progress) : Type 0 where
   pub next : ℕ
-  pub in_progress : stage_at s.working lane ≡ InProgress p
+  pub in_progress : stage_at s.working lane ≡ Some p
   pub passes : p.verdict ≡ Pass next
   pub all_copied : lane_count ≤ next
   pub immediate : p.trigger ≡ Immediate

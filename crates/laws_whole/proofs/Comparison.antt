@@ -1,4 +1,5 @@
 -- What the comparison run is: an accepted group is carried out whole at its closing step, with the settings held at its trigger. Assumes nothing.
+use Rattle.std.proofs.Common.{None, Some, Option}
 use mathlib.Core.Path.{◌≡◌, refl, ◌∙◌}
 use mathlib.Core.Bool.{true, false}
 use Prim.Native.Nat.{ℕ, ◌<◌}
@@ -11,8 +12,7 @@ use Rattle.model.specs.State.{State, state_with}
 use Rattle.model.specs.Work.{written_settings, late, copy_next, copy_group, is_release, closed_state, closing_effect, copied_state}
 use Rattle.model.specs.declared.lane.Trigger.{Trigger}
 use Rattle.model.specs.declared.lane.Verdict.{Verdict}
-use Rattle.model.specs.declared.lane.Stage.{Stage}
-use Rattle.model.specs.declared.lane.Stage.TheVariants.{Idle, InProgress}
+use Rattle.model.specs.declared.lane.Progress.{Progress}
 use Rattle.model.specs.declared.lane.Working.{Working}
 use Rattle.laws_frames.proofs.Outside.{get-within}
 use Rattle.laws_frames.proofs.Registers.{setting-from, setting-to, settings_at_same}
@@ -26,10 +26,10 @@ unfolding copied_state copy_next
 waits_for_closing s g n = refl
 
 -- and the settings held
-pub holds_on : (s : Stage) (v : Verdict) → held_in (with_verdict s v) ≡ held_in s
+pub holds_on : (s : Option Progress) (v : Verdict) → held_in (with_verdict s v) ≡ held_in s
 unfolding held_in with_verdict
-holds_on Idle v = refl
-holds_on (InProgress p) v = refl
+holds_on None v = refl
+holds_on (Some p) v = refl
 
 module _ (y : Image) (w : Working) (g : ℕ) (t : Trigger) (m : ℕ) (b : m < 8) where
   -- after the copy of the group, closing changes no active setting

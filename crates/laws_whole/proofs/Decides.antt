@@ -1,4 +1,5 @@
 -- A trigger decides the same for two views that differ in the active settings of lanes of passing groups alone. Assumes nothing.
+use Rattle.std.proofs.Common.{None, Some, Option}
 use mathlib.Core.Path.{◌≡◌, refl, sym, ◌∙◌}
 use mathlib.Core.Bool.{Bool, true, false}
 use mathlib.Core.List.{List}
@@ -20,8 +21,7 @@ use Rattle.model.specs.declared.lane.Trigger.{Trigger}
 use Rattle.model.specs.declared.lane.StagedSet.{StagedSet}
 use Rattle.model.specs.declared.lane.Trigger.TheVariants.{DpInit, Immediate}
 use Rattle.model.specs.declared.lane.Working.{Working}
-use Rattle.model.specs.declared.application.Lookup.{Lookup}
-use Rattle.model.specs.declared.application.Lookup.TheVariants.{Missing, Found}
+use Rattle.model.specs.declared.application.Descriptor.{Descriptor}
 use Rattle.laws_whole.proofs.Sees.{swap}
 use Rattle.laws_sound.proofs.Stranger.{idle_passing}
 use Rattle.laws_sound.proofs.Groups.{group_self}
@@ -75,10 +75,10 @@ module _ (v : View) (late : List Settings) (w : Working) (selected : ℕ)
     too_late-same DpInit a = refl
     too_late-same Immediate a = rw (other_same a)
 
-    apply-same : (d : Lookup) (t : Trigger) (f a : ℕ) → apply_by d t v g f a ≡ apply_by d t (swap v late) g f a
+    apply-same : (d : Option Descriptor) (t : Trigger) (f a : ℕ) → apply_by d t v g f a ≡ apply_by d t (swap v late) g f a
     unfolding apply_by wrong_state unsupported
-    apply-same Missing t f a = refl
-    apply-same (Found d) t f a = rw (crossing-same, too_late-same t a)
+    apply-same None t f a = refl
+    apply-same (Some d) t f a = rw (crossing-same, too_late-same t a)
 
     release-same : first_in g < 8 → has g (first_in g) ≡ true → release_verdict v g ≡ release_verdict (swap v late) g
     unfolding release_verdict path_release path_of

@@ -1,4 +1,5 @@
 -- A trigger marks the same lanes with the same records in both runs, and what it marks waits in the comparison run.
+use Rattle.std.proofs.Common.{Some}
 use mathlib.Core.Path.{◌≡◌, refl, sym, ap, ◌∙◌}
 use mathlib.Core.Bool.{true, false}
 use Prim.Native.Nat.{ℕ, ◌<◌}
@@ -17,7 +18,6 @@ use Rattle.model.specs.declared.lane.Trigger.{Trigger}
 use Rattle.model.specs.declared.lane.StagedSet.{StagedSet}
 use Rattle.model.specs.declared.lane.Verdict.TheVariants.{Pass}
 use Rattle.model.specs.declared.lane.Progress.{Progress}
-use Rattle.model.specs.declared.lane.Stage.TheVariants.{InProgress}
 use Rattle.model.specs.declared.lane.Working.{Working}
 use Rattle.laws_frames.proofs.Registers.{advertised_between, settings-same, applications-same}
 use Rattle.laws_frames.proofs.Stages.{stage_in}
@@ -63,7 +63,7 @@ module _ (x y : Image) (w : Working) (S : Sound (seen_of (state_with x w))) (P :
 
   -- a marked lane's active settings are the same in both runs, and they name its group in the run, which is sound
   new_fit : Sound (seen_of (marked_state t set (view_of base x) (state_with x w) selected)) → (l n : ℕ) (p : Progress) → l < 8
-      → is_marked (view_of base x) w selected l ≡ true → stage_at (with_stages w (stage_after t set (view_of base x) w selected)) l ≡ InProgress p → p.verdict ≡ Pass n
+      → is_marked (view_of base x) w selected l ≡ true → stage_at (with_stages w (stage_after t set (view_of base x) w selected)) l ≡ Some p → p.verdict ≡ Pass n
       → Fit (applications_of y) p.group (of (active_of y) l)
   unfolding marked_state
   new_fit T l n p b k e q =

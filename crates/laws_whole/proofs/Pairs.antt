@@ -1,4 +1,5 @@
 -- The two runs side by side, and that a lane of a passing group is on no path of a lane outside it, in either run.
+use Rattle.std.proofs.Common.{Option, Some}
 use mathlib.Core.Path.{◌≡◌, sym, ◌∙◌}
 use mathlib.Core.Bool.{Bool, true, false}
 use mathlib.Core.List.{List}
@@ -13,10 +14,8 @@ use Rattle.model.specs.State.{State, state_with}
 use Rattle.model.specs.declared.lane.Verdict.TheVariants.{Pass}
 use Rattle.model.specs.declared.lane.Progress.{Progress}
 use Rattle.model.specs.declared.lane.Settings.{Settings}
-use Rattle.model.specs.declared.lane.Stage.{Stage}
-use Rattle.model.specs.declared.lane.Stage.TheVariants.{InProgress}
 use Rattle.model.specs.declared.lane.Working.{Working}
-use Rattle.model.specs.declared.application.Lookup.{Lookup}
+use Rattle.model.specs.declared.application.Descriptor.{Descriptor}
 use Rattle.laws_frames.proofs.Registers.{settings_at_same}
 use Rattle.laws_sound.specs.Sound.{seen_of, Sound}
 use Rattle.laws_sound.proofs.Paths.{same_together, fills_first}
@@ -26,7 +25,7 @@ use Rattle.laws_whole.proofs.Agree.{alike-setting}
 use Rattle.laws_whole.proofs.Sees.{active_of, active_at}
 use Rattle.laws_frames.specs.Alike.{Alike}
 
-pub passing_busy : (s : Stage) → is_passing s ≡ true → is_in_progress s ≡ true
+pub passing_busy : (s : Option Progress) → is_passing s ≡ true → is_in_progress s ≡ true
 passing_busy s p = split (is_in_progress s) (λ e. e) (λ e. absurd (clash p (idle_passing s e)))
 
 -- lane l belongs to a passing group
@@ -38,12 +37,12 @@ abbrev pub veiled : Working → ℕ → ℕ → Bool
 veiled w = active_bit_of (passed w)
 
 -- settings whose whole path, if they are used, is the set g
-abbrev pub Fit : List Lookup → ℕ → Settings → Type 0
+abbrev pub Fit : List (Option Descriptor) → ℕ → Settings → Type 0
 Fit applications g h = is_used h ≡ true → fills (application_in applications (app_sel h)) (path_id h) g ≡ true
 
 -- in the comparison run a passing group waits for its copy: the active settings of its lanes, if they are used, still name the group
 abbrev pub Waits : Image → Working → Type 0
-Waits y w = (l n : ℕ) (p : Progress) → l < 8 → stage_at w l ≡ InProgress p → p.verdict ≡ Pass n → Fit (applications_of y) p.group (of (active_of y) l)
+Waits y w = (l n : ℕ) (p : Progress) → l < 8 → stage_at w l ≡ Some p → p.verdict ≡ Pass n → Fit (applications_of y) p.group (of (active_of y) l)
 
 -- the image x of a run and the image y of its comparison run, with one working state
 pub record Pair (x y : Image) (w : Working) : Type 0 where

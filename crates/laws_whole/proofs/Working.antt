@@ -1,4 +1,5 @@
 -- A work step in both runs: a rejection closes, a lane is copied or waits, a pass closes.
+use Rattle.std.proofs.Common.{None, Some, Option}
 use mathlib.Core.Path.{◌≡◌, refl, sym, ◌∙◌}
 use mathlib.Core.Bool.{Bool, true, false}
 use mathlib.Core.List.{[]}
@@ -23,8 +24,6 @@ use Rattle.model.specs.declared.lane.Trigger.TheVariants.{DpInit, Immediate}
 use Rattle.model.specs.declared.lane.Verdict.{Verdict}
 use Rattle.model.specs.declared.lane.Verdict.TheVariants.{Pass, Reject}
 use Rattle.model.specs.declared.lane.Progress.{Progress}
-use Rattle.model.specs.declared.lane.Stage.{Stage}
-use Rattle.model.specs.declared.lane.Stage.TheVariants.{Idle, InProgress}
 use Rattle.model.specs.declared.lane.Working.{Working}
 use Rattle.laws_frames.proofs.Registers.{advertised_below, applications-same}
 use Rattle.laws_frames.proofs.Changes.{copy_outside}
@@ -54,7 +53,7 @@ leaves_pair except P = record { states = P; mask = refl; bytes = alike_refl exce
 
 -- ---- lanes that go idle
 module _ (w : Working) (g : ℕ) where
-  still : (l : ℕ) (p : Progress) → l < 8 → stage_at (freed_working w g) l ≡ InProgress p → (stage_at w l ≡ InProgress p) × (has g l ≡ false)
+  still : (l : ℕ) (p : Progress) → l < 8 → stage_at (freed_working w g) l ≡ Some p → (stage_at w l ≡ Some p) × (has g l ≡ false)
   still l p b e = split (has g l)
       (λ i. absurd (not-idle (freed_in w g l b i) e))
       (λ i. (sym (freed_out w g l b i) ∙ e, i))
@@ -67,7 +66,7 @@ module _ (w : Working) (g : ℕ) where
   freed_passing m b i p = rw (freed_out w g m b i) p
 
 module _ (x y : Image) (w : Working) (S : Sound (seen_of (state_with x w))) (P : Pair x y w)
-    (l : ℕ) (p : Progress) (b : l < 8) (e : stage_at w l ≡ InProgress p) where
+    (l : ℕ) (p : Progress) (b : l < 8) (e : stage_at w l ≡ Some p) where
   -- ---- a rejection closes
   rejected-not : (code m : ℕ) → p.verdict ≡ Reject code → m < 8 → is_passing (stage_at w m) ≡ true → has p.group m ≡ false
   rejected-not code m v bm f = split (has p.group m)
@@ -98,7 +97,7 @@ module _ (x y : Image) (w : Working) (S : Sound (seen_of (state_with x w))) (P :
     unfolding with_verdict
     copied_waits k m j q bm f u = split (has p.group m)
         (λ i. let t = (S.grouped l p b e).mate m bm i in
-        let r : InProgress (progress_with t.its (Pass k)) ≡ InProgress q =
+        let r : Some (progress_with t.its (Pass k)) ≡ Some q =
         sym (advanced_in w p.group k m bm i ∙ rw t.stage) ∙ f in
         let a : t.its.group ≡ q.group = cc in
         rw (← a) (P.waits m n t.its bm t.stage (t.verdict ∙ v)))
@@ -185,10 +184,10 @@ module _ (x y : Image) (w : Working) (S : Sound (seen_of (state_with x w))) (P :
       (λ h. rw (h, pick) (closed_carries n v (ltb-false n 8 h) except t))
 
 module _ (x y : Image) (w : Working) (S : Sound (seen_of (state_with x w))) (P : Pair x y w) (except : ℕ → ℕ → Bool) (l : ℕ) (b : l < 8) where
-  worked-on : (s : Stage) → stage_at w l ≡ s → Carries except (work_effect_on s early (state_with x w)) (work_effect_on s late (state_with y w))
+  worked-on : (s : Option Progress) → stage_at w l ≡ s → Carries except (work_effect_on s early (state_with x w)) (work_effect_on s late (state_with y w))
   unfolding work_effect_on
-  worked-on Idle e = leaves_pair except (record { working = refl; pair = P })
-  worked-on (InProgress p) e = worked_by x y w S P l p b e except p.trigger p.verdict refl
+  worked-on None e = leaves_pair except (record { working = refl; pair = P })
+  worked-on (Some p) e = worked_by x y w S P l p b e except p.trigger p.verdict refl
 
   pub work_carries : Carries except (work_effect early (state_with x w) l) (work_effect late (state_with y w) l)
   unfolding work_effect

@@ -32,7 +32,7 @@ fn refused(answer: Answer, w: Working) -> Run
 pub fn admitted(answer: Answer, room: usize, w: Working, n: usize) -> Run
     ensures { result ≡ admitted_run answer room n w }
 {
-    if answer.number() != 0 {
+    if answer != Answer::Done {
         return refused(answer, w);
     }
     if room < n {
@@ -52,10 +52,9 @@ pub fn noted(answers: &mut [u8], r: Run, answer: Answer, working: Working) -> Ru
     ensures { (result ≡ noted_run r working) × (answers.new ≡ noted_answers r answer answers.old) }
 {
     let at = r.at;
-    let before = r.left;
-    let admitted = before.answer;
+    let admitted = r.left.answer;
     let left = contracts::reply(admitted, working);
-    answers[at] = answer.number();
+    answers[at] = u8::from(answer);
     Run {
         left,
         at: at + 1,

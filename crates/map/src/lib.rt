@@ -6,9 +6,7 @@ ghost use Rattle.bits.specs.Choice.{both};
 ghost use Rattle.model.specs.Map.{image_length, page_length, on, flag_bytes, flag_byte_count, lasting_count, lasting_flag, lasting_index, writable, clearing, kept};
 ghost use Rattle.model.specs.Access.{without_reset};
 
-// The image: lower memory, then six pages; a page's addresses start at UPPER.
-pub const IMAGE_LENGTH: usize = 896;
-
+// A page's bytes; its addresses start at UPPER.
 pub const PAGE_LENGTH: usize = 128;
 
 pub const UPPER: u8 = 128;

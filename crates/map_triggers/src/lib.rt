@@ -3,10 +3,9 @@
 
 ghost use Rattle.std.specs.Prelude.{◌≡◌, ◌+◌, ◌^◌, ◌<◌};
 ghost use Rattle.model.specs.Map.{trigger_at};
-ghost use Rattle.model.specs.declared.lane.TriggerPlace.TheVariants.{Applies};
 ghost use Rattle.map_triggers.specs.Meets.{meets_triggers};
 
-use model::lane::{Apply, StagedSet, Trigger, TriggerPlace};
+use model::lane::{Apply, StagedSet, Trigger};
 
 const APPLY_DP_INIT_0: usize = map::PAGE_10 + (143 - 128);
 
@@ -17,14 +16,14 @@ const APPLY_DP_INIT_1: usize = map::PAGE_10 + (178 - 128);
 const APPLY_IMMEDIATE_1: usize = map::PAGE_10 + (179 - 128);
 
 // A trigger of a staged set at its place.
-fn applies(trigger: Trigger, set: StagedSet) -> TriggerPlace
-    ensures { result ≡ Applies (record { trigger = trigger; set = set }) }
+fn applies(trigger: Trigger, set: StagedSet) -> Option<Apply>
+    ensures { result ≡ Some (record { trigger = trigger; set = set }) }
 {
-    TriggerPlace::Applies(Apply { trigger, set })
+    Some(Apply { trigger, set })
 }
 
-// What a place is to the triggers.
-pub fn trigger_at(i: usize) -> TriggerPlace
+// The Apply that a write to a place asks for, if a trigger lies there.
+pub fn trigger_at(i: usize) -> Option<Apply>
     ensures { result ≡ trigger_at i }
 {
     match i {
@@ -32,7 +31,7 @@ pub fn trigger_at(i: usize) -> TriggerPlace
         APPLY_IMMEDIATE_0 => applies(Trigger::Immediate, StagedSet::Set0),
         APPLY_DP_INIT_1 => applies(Trigger::DpInit, StagedSet::Set1),
         APPLY_IMMEDIATE_1 => applies(Trigger::Immediate, StagedSet::Set1),
-        _ => TriggerPlace::NoTrigger,
+        _ => None,
     }
 }
 

@@ -3,5 +3,6 @@ pub mod Descriptors
 pub mod Lasting
 pub mod Editions
 pub mod Starts
+pub mod States
 pub mod Triggers
 pub mod Refused

@@ -1,4 +1,5 @@
 -- The page of a number is one of the module's, or none of them has it; the selected page is 128 whole bytes of the image, past lower memory. Assumes nothing.
+use Rattle.std.proofs.Common.{None, Some, Option, ℕ}
 use mathlib.Core.Path.{◌≡◌, refl}
 use mathlib.Core.Bool.{Bool, true, false, not}
 use mathlib.Core.List.{List, [], ◌∷◌}
@@ -14,8 +15,6 @@ use Rattle.bits.proofs.Tests.{split, both_l, both_r, pick_true, pick-false}
 use Rattle.bits.proofs.Members.{any_of-none}
 use Rattle.model.specs.Map.{Image, image_length}
 use Rattle.model.specs.Pages.{Page, pages, find_page, page_start, upper_start, selected_start}
-use Rattle.model.specs.declared.page.PageStart.{PageStart}
-use Rattle.model.specs.declared.page.PageStart.TheVariants.{Unsupported, At}
 
 -- ---- the lookup goes by the list
 
@@ -26,8 +25,8 @@ is_page bank page p = both (eqb page p.number) (implies p.banked (eqb bank 0))
 -- what the lookup finds starts where a page of the list does that has the number; it finds nothing only where none has it
 abbrev pub Found : List Page → ℕ → ℕ → Type 0
 Found ps bank page =
-    ((p : Page) × Among p ps × (is_page bank page p ≡ true) × (find_page ps bank page ≡ At p.start))
-    ⊎ ((any_of ps (is_page bank page) ≡ false) × (find_page ps bank page ≡ Unsupported))
+    ((p : Page) × Among p ps × (is_page bank page p ≡ true) × (find_page ps bank page ≡ Some p.start))
+    ⊎ ((any_of ps (is_page bank page) ≡ false) × (find_page ps bank page ≡ None))
 
 module _ (bank page : ℕ) where
   past_first : (p : Page) (ps : List Page) → is_page bank page p ≡ false → Found ps bank page → Found (p ∷ ps) bank page
@@ -45,7 +44,7 @@ module _ (bank page : ℕ) where
 -- ---- where pages lie
 
 -- a page's 128 bytes lie in upper memory
-abbrev Fits : PageStart → Type 0
+abbrev Fits : Option ℕ → Type 0
 Fits p = (128 ≤ upper_start p) × (upper_start p + 128 ≤ image_length)
 
 unfoldable fits : Page → Bool
@@ -55,7 +54,7 @@ all_fit : any_of pages (λ p. not (fits p)) ≡ false
 unfolding any_of fits both either
 all_fit = refl
 
-page_fits : (p : Page) → Among p pages → Fits (At p.start)
+page_fits : (p : Page) → Among p pages → Fits (Some p.start)
 unfolding fits
 page_fits p m = let t = not-false _ (any_of-none (λ p. not (fits p)) pages p all_fit m) in (leb-true _ _ (both_l _ _ t), leb-true _ _ (both_r _ _ t))
 

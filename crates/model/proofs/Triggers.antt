@@ -1,4 +1,5 @@
 -- Where the triggers stand: what their lookup finds is a row of the table, and what holds for every row. Assumes nothing.
+use Rattle.std.proofs.Common.{None, Some}
 use mathlib.Core.Path.{◌≡◌, refl}
 use mathlib.Core.Bool.{Bool, true, false, not}
 use mathlib.Core.List.{List, [], ◌∷◌}
@@ -15,12 +16,11 @@ use Rattle.model.specs.Map.{TriggerRow, triggers, find_trigger, trigger_at, stag
 use Rattle.model.specs.declared.lane.StagedSet.{StagedSet}
 use Rattle.model.specs.declared.lane.StagedSet.TheVariants.{Set0, Set1}
 use Rattle.model.specs.declared.lane.Apply.{Apply}
-use Rattle.model.specs.declared.lane.TriggerPlace.TheVariants.{NoTrigger, Applies}
 
 -- ---- the lookup goes by the list
 
 abbrev pub FoundAt : List TriggerRow → ℕ → Type 0
-FoundAt rows i = ((row : TriggerRow) × Among row rows × (i ≡ row.place) × (find_trigger rows i ≡ Applies row.apply)) ⊎ (find_trigger rows i ≡ NoTrigger)
+FoundAt rows i = ((row : TriggerRow) × Among row rows × (i ≡ row.place) × (find_trigger rows i ≡ Some row.apply)) ⊎ (find_trigger rows i ≡ None)
 
 past_first : (row : TriggerRow) (rows : List TriggerRow) (i : ℕ) → eqb i row.place ≡ false → FoundAt rows i → FoundAt (row ∷ rows) i
 unfolding Among find_trigger
@@ -59,7 +59,7 @@ pub record IsTrigger (i : ℕ) : Type 0 where
   pub kept : writable i ≡ false
 
 -- a place is no trigger's, or it is one's, with all that holds for every row
-pub by_row : (i : ℕ) → ((a : Apply) × (trigger_at i ≡ Applies a) × IsTrigger i) ⊎ (trigger_at i ≡ NoTrigger)
+pub by_row : (i : ℕ) → ((a : Apply) × (trigger_at i ≡ Some a) × IsTrigger i) ⊎ (trigger_at i ≡ None)
 unfolding trigger_at fits
 by_row i = elim (found triggers i) [
   | inl (row, m, e, f) ↦
@@ -68,20 +68,20 @@ by_row i = elim (found triggers i) [
   | inr f ↦ inr f
 ]
 
-pub at_row : (i : ℕ) (a : Apply) → trigger_at i ≡ Applies a → IsTrigger i
+pub at_row : (i : ℕ) (a : Apply) → trigger_at i ≡ Some a → IsTrigger i
 at_row i a e = elim (by_row i) [
   | inl (b, f, t) ↦ t
   | inr f ↦ let z : ◌≡◌ {A = ℕ} 0 1 = cc in absurd (omega arith)
 ]
 
 -- a place before page 10h is no trigger's, and neither is one that keeps what is written to it
-pub no_trigger_below : (i : ℕ) → i < page10 → trigger_at i ≡ NoTrigger
+pub no_trigger_below : (i : ℕ) → i < page10 → trigger_at i ≡ None
 no_trigger_below i h = elim (by_row i) [
   | inl (a, e, t) ↦ absurd (omega (arith, t.late))
   | inr e ↦ e
 ]
 
-pub no_trigger-stored : (i : ℕ) → writable i ≡ true → trigger_at i ≡ NoTrigger
+pub no_trigger-stored : (i : ℕ) → writable i ≡ true → trigger_at i ≡ None
 no_trigger-stored i w = elim (by_row i) [
   | inl (a, e, t) ↦ absurd (clash w t.kept)
   | inr e ↦ e

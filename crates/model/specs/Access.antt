@@ -1,5 +1,5 @@
 -- Host accesses, byte by byte in address order (01 "Host accesses").
-use Rattle.std.specs.Prelude.{suc, ◌+◌, ◌-◌, Bool, [], ◌∷◌, eqb, leb, ltb, get_or, set}
+use Rattle.std.specs.Prelude.{suc, ◌+◌, ◌-◌, Bool, [], ◌∷◌, eqb, leb, ltb, get_or, set, None, Some, Option}
 use Rattle.bits.specs.Choice.{pick, only_if, both, either}
 use Rattle.bits.specs.Loop.{each, tab}
 use Rattle.bits.specs.Number.{field, with_field}
@@ -10,8 +10,7 @@ use Rattle.model.specs.Triggers.{triggered_state}
 use Rattle.model.specs.Pages.{selected_start, index_of, selected_image}
 use Rattle.model.specs.Commands.{command_image}
 use Rattle.model.specs.Start.{reset_state}
-use Rattle.model.specs.declared.lane.TriggerPlace.{TriggerPlace}
-use Rattle.model.specs.declared.lane.TriggerPlace.TheVariants.{NoTrigger, Applies}
+use Rattle.model.specs.declared.lane.Apply.{Apply}
 
 -- lower 26.3, SoftwareReset, is never stored and reads as 0 (02 Req 04)
 unfoldable pub without_reset : Index → Byte → Byte
@@ -20,9 +19,9 @@ without_reset i v = pick (eqb i module_controls) (with_field v software_reset_bi
 -- ---- writing
 
 -- a byte written to an index of the image: the page select and the triggers act, writable bytes are stored, the others ignore it
-unfoldable pub stored_by : TriggerPlace → Index → Byte → State → State
-stored_by NoTrigger i v s = pick (writable i) (with_image s (set s.image i (without_reset i v))) s
-stored_by (Applies a) i v s = triggered_state a.trigger a.set s v
+unfoldable pub stored_by : Option Apply → Index → Byte → State → State
+stored_by None i v s = pick (writable i) (with_image s (set s.image i (without_reset i v))) s
+stored_by (Some a) i v s = triggered_state a.trigger a.set s v
 
 unfoldable pub stored_state : Index → Byte → State → State
 stored_state i v s = pick (eqb i page_select) (with_image s (selected_image v s.image)) (stored_by (trigger_at i) i v s)

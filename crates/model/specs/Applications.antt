@@ -1,12 +1,11 @@
 -- Applications and their descriptors (01 "Triggers and verdicts", 02 Req 05; 002 table 8-22).
-use Rattle.std.specs.Prelude.{◌+◌, ◌*◌, ◌-◌, Bool, not, eqb, leb, ltb, get_or}
+use Rattle.std.specs.Prelude.{◌+◌, ◌*◌, ◌-◌, Bool, not, eqb, leb, ltb, get_or, None, Some, Option}
 use Rattle.bits.specs.Choice.{pick, both}
 use Rattle.bits.specs.Number.{field}
 use Rattle.bits.specs.Loop.{all_below}
 use Rattle.model.specs.Numbers.{Byte, Count, Index, AppSel}
 use Rattle.model.specs.Map.{Image, descriptors, more_descriptors}
-use Rattle.model.specs.declared.application.Lookup.{Lookup}
-use Rattle.model.specs.declared.application.Lookup.TheVariants.{Missing, Found}
+use Rattle.model.specs.declared.application.Descriptor.{Descriptor}
 
 abbrev pub application_count : Count
 application_count = 15
@@ -39,6 +38,6 @@ is_present x a =
     both (both (leb 1 a) (leb a application_count))
     (both (list_reaches x a) (both (leb 1 (host_lane_count x a)) (leb (host_lane_count x a) 8)))
 
-unfoldable pub lookup : Image → AppSel → Lookup
+unfoldable pub lookup : Image → AppSel → Option Descriptor
 lookup x a =
-    pick (is_present x a) (Found (record { count = host_lane_count x a; firsts = get_or x (descriptor_at a + 3) 0 })) Missing
+    pick (is_present x a) (Some (record { count = host_lane_count x a; firsts = get_or x (descriptor_at a + 3) 0 })) None

@@ -1,5 +1,5 @@
 -- The night file: header, image, records (01 "The night file").
-use Rattle.std.specs.Prelude.{zero, suc, ◌+◌, ◌*◌, Bool, List, [], ◌∷◌, ◌++◌, eqb, leb, ltb, length, get_or, take, drop}
+use Rattle.std.specs.Prelude.{zero, suc, ◌+◌, ◌*◌, Bool, List, [], ◌∷◌, ◌++◌, eqb, leb, ltb, length, get_or, take, drop, Err, Ok, Result}
 use Rattle.bits.specs.Choice.{pick, both, implies}
 use Rattle.bits.specs.Loop.{tab, all_below}
 use Rattle.bits.specs.Word.{word}
@@ -12,8 +12,6 @@ use Rattle.model.specs.declared.answer.Answer.TheVariants.{Malformed}
 use Rattle.model.specs.declared.event.Call.{Call}
 use Rattle.model.specs.declared.event.Call.TheVariants.{Write, Read, Work, Hardware, Condition, Sample, Lasting, Module, Line}
 use Rattle.model.specs.declared.event.Event.{Event}
-use Rattle.model.specs.declared.file.FileCheck.{FileCheck}
-use Rattle.model.specs.declared.file.FileCheck.TheVariants.{Refused, Good}
 
 -- ---- the editions of the file
 
@@ -211,11 +209,11 @@ is_well_formed limit file =
 
 -- ---- the check of the whole file: malformed first, then what start answers to its image
 
-unfoldable pub file_check_by : Answer → Bytes → FileCheck
-file_check_by a file = pick (is_done a) (Good (record_count file)) (Refused a)
+unfoldable pub file_check_by : Answer → Bytes → Result Count Answer
+file_check_by a file = pick (is_done a) (Ok (record_count file)) (Err a)
 
-unfoldable pub file_check_up_to : Count → Bytes → FileCheck
-file_check_up_to limit file = pick (is_well_formed limit file) (file_check_by (first_of (start_refusals (image_in file))) file) (Refused Malformed)
+unfoldable pub file_check_up_to : Count → Bytes → Result Count Answer
+file_check_up_to limit file = pick (is_well_formed limit file) (file_check_by (first_of (start_refusals (image_in file))) file) (Err Malformed)
 
-abbrev pub file_check : Bytes → FileCheck
+abbrev pub file_check : Bytes → Result Count Answer
 file_check file = file_check_up_to record_limit file

@@ -1,6 +1,6 @@
 -- The register map: every address once, by name (01 "The module we ship"; 002 chapter 8). A register is named by its index in the image; where a host names
 -- it by its address on a page, its name ends in Flag.
-use Rattle.std.specs.Prelude.{◌+◌, ◌-◌, ◌*◌, ◌/◌, Bool, true, false, List, [], ◌∷◌, map, eqb, leb, length, get_or}
+use Rattle.std.specs.Prelude.{◌+◌, ◌-◌, ◌*◌, ◌/◌, Bool, true, false, List, [], ◌∷◌, map, eqb, leb, length, get_or, None, Some, Option}
 use Prim.Native.String.{String}
 use Rattle.bits.specs.Choice.{pick, both, either}
 use Rattle.bits.specs.Lane.{lane_field}
@@ -11,8 +11,6 @@ use Rattle.model.specs.declared.lane.Trigger.TheVariants.{DpInit, Immediate}
 use Rattle.model.specs.declared.lane.StagedSet.{StagedSet}
 use Rattle.model.specs.declared.lane.StagedSet.TheVariants.{Set0, Set1}
 use Rattle.model.specs.declared.lane.Apply.{Apply}
-use Rattle.model.specs.declared.lane.TriggerPlace.{TriggerPlace}
-use Rattle.model.specs.declared.lane.TriggerPlace.TheVariants.{NoTrigger, Applies}
 use Rattle.bits.specs.declared.Place.{Place}
 
 -- the lent image (01, 02 Req 01): lower memory and six pages of 128 bytes
@@ -209,16 +207,16 @@ triggers =
     ∷ []
 
 -- what a place is to the triggers of a list, and to the module's
-unfoldable pub find_trigger : List TriggerRow → Index → TriggerPlace
-find_trigger [] i = NoTrigger
-find_trigger (row ∷ rows) i = pick (eqb i row.place) (Applies row.apply) (find_trigger rows i)
+unfoldable pub find_trigger : List TriggerRow → Index → Option Apply
+find_trigger [] i = None
+find_trigger (row ∷ rows) i = pick (eqb i row.place) (Some row.apply) (find_trigger rows i)
 
-unfoldable pub trigger_at : Index → TriggerPlace
+unfoldable pub trigger_at : Index → Option Apply
 trigger_at i = find_trigger triggers i
 
-unfoldable pub is_trigger : TriggerPlace → Bool
-is_trigger NoTrigger = false
-is_trigger (Applies a) = true
+unfoldable pub is_trigger : Option Apply → Bool
+is_trigger None = false
+is_trigger (Some a) = true
 
 -- 213 on: the masks, one for each flag byte, 79 above it (01; 002 table 8-81)
 abbrev pub flag_masks : Index

@@ -1,5 +1,5 @@
 -- The lanes' records: reading them, replacing their stages, and what is on; and the low-power line beside them (01 "The module we ship", 02 Req 02, Req 04).
-use Rattle.std.specs.Prelude.{Bool, true, false, List, get_or}
+use Rattle.std.specs.Prelude.{Bool, true, false, List, get_or, None, Some, Option}
 use mir.Val.{bool_byte}
 use Rattle.bits.specs.Choice.{pick, both}
 use Rattle.bits.specs.Loop.{tab, any_below}
@@ -12,8 +12,6 @@ use Rattle.model.specs.declared.lane.StagedSet.{StagedSet}
 use Rattle.model.specs.declared.lane.Verdict.{Verdict}
 use Rattle.model.specs.declared.lane.Verdict.TheVariants.{Pass, Reject}
 use Rattle.model.specs.declared.lane.Progress.{Progress}
-use Rattle.model.specs.declared.lane.Stage.{Stage}
-use Rattle.model.specs.declared.lane.Stage.TheVariants.{Idle, InProgress}
 use Rattle.model.specs.declared.lane.LaneRecord.{LaneRecord}
 use Rattle.model.specs.declared.lane.Working.{Working}
 
@@ -21,7 +19,7 @@ abbrev pub no_settings : Settings
 no_settings = record { config = 0; adaptive = 0; equalizer = 0; cdr_tx = 0; cdr_rx = 0; pre = 0; post = 0; amplitude = 0 }
 
 abbrev pub idle_record : LaneRecord
-idle_record = record { stage = Idle; on = 0 }
+idle_record = record { stage = None; on = 0 }
 
 -- all lanes idle with nothing on, beside the low-power line as it is
 abbrev pub idle_with : Bool → Working
@@ -36,7 +34,7 @@ idle_working = idle_with false
 abbrev pub record_at : Working → Lane → LaneRecord
 record_at w l = get_or w.lanes l idle_record
 
-abbrev pub stage_at : Working → Lane → Stage
+abbrev pub stage_at : Working → Lane → Option Progress
 stage_at w l = (record_at w l).stage
 
 -- the flags of a lane that are on
@@ -47,23 +45,23 @@ on_at w l = (record_at w l).on
 unfoldable pub on_lanes : Working → FlagIndex → LaneSet
 on_lanes w k = mask_of lane_count (λ l. has (on_at w l) k)
 
-unfoldable pub is_in_progress : Stage → Bool
-is_in_progress Idle = false
-is_in_progress (InProgress p) = true
+unfoldable pub is_in_progress : Option Progress → Bool
+is_in_progress None = false
+is_in_progress (Some p) = true
 
 unfoldable pub is_pass : Verdict → Bool
 is_pass (Pass n) = true
 is_pass (Reject c) = false
 
 -- the lane belongs to a passing group
-unfoldable pub is_passing : Stage → Bool
-is_passing Idle = false
-is_passing (InProgress p) = is_pass p.verdict
+unfoldable pub is_passing : Option Progress → Bool
+is_passing None = false
+is_passing (Some p) = is_pass p.verdict
 
 -- the settings that a lane's record holds
-unfoldable pub held_in : Stage → Settings
-held_in Idle = no_settings
-held_in (InProgress p) = p.held
+unfoldable pub held_in : Option Progress → Settings
+held_in None = no_settings
+held_in (Some p) = p.held
 
 -- a lane of the set is in progress
 unfoldable pub any_in_progress : Working → (Lane → Bool) → Bool
@@ -71,7 +69,7 @@ any_in_progress w c = any_below lane_count (λ m. both (c m) (is_in_progress (st
 
 -- ---- replacing
 
-unfoldable pub with_stage : LaneRecord → Stage → LaneRecord
+unfoldable pub with_stage : LaneRecord → Option Progress → LaneRecord
 with_stage r s = record { stage = s; on = r.on }
 
 unfoldable pub with_on : LaneRecord → OnBits → LaneRecord
@@ -85,7 +83,7 @@ abbrev pub with_line : Working → Bool → Working
 with_line w on = record { lanes = w.lanes; line = on }
 
 -- every lane's stage replaced
-unfoldable pub with_stages : Working → (Lane → Stage) → Working
+unfoldable pub with_stages : Working → (Lane → Option Progress) → Working
 with_stages w f = with_lanes w (tab lane_count (λ l. with_stage (record_at w l) (f l)))
 
 -- what is on replaced on every lane
@@ -98,7 +96,7 @@ with_flag_on k is_on bits = with_field bits k 1 (bool_byte is_on)
 
 -- the group's lanes idle again
 unfoldable pub freed_working : Working → LaneSet → Working
-freed_working w g = with_stages w (λ l. pick (has g l) Idle (stage_at w l))
+freed_working w g = with_stages w (λ l. pick (has g l) None (stage_at w l))
 
 -- the record of an Apply that begins
 abbrev pub progress_of : Trigger → StagedSet → LaneSet → Settings → Verdict → Progress
@@ -109,9 +107,9 @@ abbrev pub progress_with : Progress → Verdict → Progress
 progress_with p v = progress_of p.trigger p.set p.group p.held v
 
 -- the stage with another verdict; an idle one stays
-unfoldable pub with_verdict : Stage → Verdict → Stage
-with_verdict Idle v = Idle
-with_verdict (InProgress p) v = InProgress (progress_with p v)
+unfoldable pub with_verdict : Option Progress → Verdict → Option Progress
+with_verdict None v = None
+with_verdict (Some p) v = Some (progress_with p v)
 
 -- the group's next lane is n
 unfoldable pub advanced_working : Working → LaneSet → Lane → Working

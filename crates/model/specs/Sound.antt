@@ -1,5 +1,5 @@
 -- Soundness, the six conditions (a) to (f), as a test (01, below the refusal list; 02 Req 02).
-use Rattle.std.specs.Prelude.{◌^◌, Bool, true, false, not, List, eqb, leb, ltb, get_or}
+use Rattle.std.specs.Prelude.{◌^◌, Bool, true, false, not, List, eqb, leb, ltb, get_or, Option, None, Some}
 use Rattle.bits.specs.Choice.{both, either, implies, same}
 use Rattle.bits.specs.Loop.{tab, all_below}
 use Rattle.bits.specs.Place.{get}
@@ -21,10 +21,8 @@ use Rattle.model.specs.declared.lane.StagedSet.TheVariants.{Set0, Set1}
 use Rattle.model.specs.declared.lane.Verdict.{Verdict}
 use Rattle.model.specs.declared.lane.Verdict.TheVariants.{Pass, Reject}
 use Rattle.model.specs.declared.lane.Progress.{Progress}
-use Rattle.model.specs.declared.lane.Stage.{Stage}
-use Rattle.model.specs.declared.lane.Stage.TheVariants.{Idle, InProgress}
 use Rattle.model.specs.declared.lane.Working.{Working}
-use Rattle.model.specs.declared.application.Lookup.{Lookup}
+use Rattle.model.specs.declared.application.Descriptor.{Descriptor}
 
 -- ---- (a) ConfigStatus is Ch exactly for lanes in progress
 
@@ -52,9 +50,9 @@ same_set Set1 Set0 = false
 same_set Set1 Set1 = true
 
 -- a lane of the group: in progress with the same group, trigger, staged set, verdict and next lane
-unfoldable pub agrees : Progress → Stage → Bool
-agrees p Idle = false
-agrees p (InProgress q) =
+unfoldable pub agrees : Progress → Option Progress → Bool
+agrees p None = false
+agrees p (Some q) =
     both (eqb p.group q.group)
     (both (same_trigger p.trigger q.trigger) (both (same_set p.set q.set) (same_verdict p.verdict q.verdict)))
 
@@ -67,9 +65,9 @@ unfoldable pub verdict_fits : LaneSet → Verdict → Bool
 verdict_fits g (Reject code) = both (leb 2 code) (leb code 7)
 verdict_fits g (Pass n) = either (eqb n lane_count) (both (ltb n lane_count) (has g n))
 
-unfoldable pub stage_fits : Working → Lane → Stage → Bool
-stage_fits w l Idle = true
-stage_fits w l (InProgress p) =
+unfoldable pub stage_fits : Working → Lane → Option Progress → Bool
+stage_fits w l None = true
+stage_fits w l (Some p) =
     both (both (has p.group l) (every_in p.group (λ m. agrees p (stage_at w m))))
     (both (settings_fit p.held) (verdict_fits p.group p.verdict))
 
@@ -83,7 +81,7 @@ share settings c l =
     (both (eqb (app_sel (of settings m)) (app_sel (of settings l))) (eqb (path_id (of settings m)) (path_id (of settings l))))))
 
 -- and their whole path is the set g
-unfoldable pub make_path : List Lookup → List Settings → (Lane → Bool) → Lane → LaneSet → Bool
+unfoldable pub make_path : List (Option Descriptor) → List Settings → (Lane → Bool) → Lane → LaneSet → Bool
 make_path applications settings c l g =
     both (share settings c l) (fills (application_in applications (app_sel (of settings l))) (path_id (of settings l)) g)
 
@@ -146,9 +144,9 @@ unfoldable pub passing_fits : View → Working → LaneSet → Verdict → Bool
 passing_fits v w g (Reject code) = true
 passing_fits v w g (Pass n) = both (both (has_purpose v w g) (rests v w g)) (both (holds_copied v w g n) (rest_is_whole v g n))
 
-unfoldable pub group_fits : View → Working → Stage → Bool
-group_fits v w Idle = true
-group_fits v w (InProgress p) = passing_fits v w p.group p.verdict
+unfoldable pub group_fits : View → Working → Option Progress → Bool
+group_fits v w None = true
+group_fits v w (Some p) = passing_fits v w p.group p.verdict
 
 -- ---- (f) a lane's on bits name only flags that can last, and a flag that is on is 1
 

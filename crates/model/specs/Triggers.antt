@@ -1,5 +1,5 @@
 -- What a trigger leaves: the groups that it marks (01 "Triggers and verdicts").
-use Rattle.std.specs.Prelude.{Bool, false, not, eqb}
+use Rattle.std.specs.Prelude.{Bool, false, not, eqb, Some, Option}
 use Rattle.bits.specs.Choice.{pick, both}
 use Rattle.bits.specs.Place.{get}
 use Rattle.bits.specs.Sets.{Lane, LaneSet, has}
@@ -14,8 +14,7 @@ use Rattle.model.specs.Verdicts.{verdict_of}
 use Rattle.model.specs.declared.lane.Trigger.{Trigger}
 use Rattle.model.specs.declared.lane.Trigger.TheVariants.{DpInit, Immediate}
 use Rattle.model.specs.declared.lane.StagedSet.{StagedSet}
-use Rattle.model.specs.declared.lane.Stage.{Stage}
-use Rattle.model.specs.declared.lane.Stage.TheVariants.{InProgress}
+use Rattle.model.specs.declared.lane.Progress.{Progress}
 use Rattle.model.specs.declared.lane.Working.{Working}
 
 -- lane l is marked: it is selected, and no lane of its group is in progress already
@@ -23,11 +22,11 @@ unfoldable pub is_marked : View → Working → LaneSet → Lane → Bool
 is_marked v w selected l = both (has selected l) (not (any_in_progress w (has (group_of v selected l))))
 
 -- its record: the staged set, the group, the settings staged now, and the verdict, fixed at once
-unfoldable pub marked_stage : Trigger → StagedSet → View → LaneSet → Lane → Stage
+unfoldable pub marked_stage : Trigger → StagedSet → View → LaneSet → Lane → Option Progress
 marked_stage t set v selected l =
-    InProgress (progress_of t set (group_of v selected l) (of v.staged l) (verdict_of t v (group_of v selected l)))
+    Some (progress_of t set (group_of v selected l) (of v.staged l) (verdict_of t v (group_of v selected l)))
 
-unfoldable pub stage_after : Trigger → StagedSet → View → Working → LaneSet → Lane → Stage
+unfoldable pub stage_after : Trigger → StagedSet → View → Working → LaneSet → Lane → Option Progress
 stage_after t set v w selected l = pick (is_marked v w selected l) (marked_stage t set v selected l) (stage_at w l)
 
 unfoldable pub marked_state : Trigger → StagedSet → View → State → LaneSet → State

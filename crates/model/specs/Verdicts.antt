@@ -1,5 +1,5 @@
 -- The verdict on a group: the first reason of 01's list that applies (01 "Triggers and verdicts"; 002 section 8.9.3).
-use Rattle.std.specs.Prelude.{◌+◌, Bool, false, not, List, eqb, ltb}
+use Rattle.std.specs.Prelude.{◌+◌, Bool, false, not, List, eqb, ltb, None, Some, Option}
 use Rattle.bits.specs.Choice.{pick, both, either}
 use Rattle.bits.specs.Loop.{any_below}
 use Rattle.bits.specs.Sets.{LaneSet, lane_count, has, first_in, some_in, within}
@@ -14,8 +14,6 @@ use Rattle.model.specs.declared.lane.Trigger.TheVariants.{DpInit, Immediate}
 use Rattle.model.specs.declared.lane.Verdict.{Verdict}
 use Rattle.model.specs.declared.lane.Verdict.TheVariants.{Pass, Reject}
 use Rattle.model.specs.declared.application.Descriptor.{Descriptor}
-use Rattle.model.specs.declared.application.Lookup.{Lookup}
-use Rattle.model.specs.declared.application.Lookup.TheVariants.{Missing, Found}
 use Rattle.model.specs.declared.path.PathState.TheVariants.{Deactivated}
 
 abbrev pub deactivated : Code
@@ -70,9 +68,9 @@ abbrev pub passed : LaneSet → Verdict
 passed g = Pass (first_in g)
 
 -- for id f and AppSel a, whose descriptor is taken apart
-unfoldable pub apply_by : Lookup → Trigger → View → LaneSet → PathId → AppSel → Verdict
-apply_by Missing t v g f a = Reject invalid_application
-apply_by (Found d) t v g f a =
+unfoldable pub apply_by : Option Descriptor → Trigger → View → LaneSet → PathId → AppSel → Verdict
+apply_by None t v g f a = Reject invalid_application
+apply_by (Some d) t v g f a =
     pick (misplaced d f g) (Reject invalid_path)
     (pick (incomplete d f g) (Reject partial_path)
     (pick (crossing v.active g) (Reject lanes_in_use)

@@ -1,5 +1,5 @@
 -- What groups, paths and verdicts look at: the lanes' settings and states and the Applications, read off the image. Past this file they know no address.
-use Rattle.std.specs.Prelude.{◌+◌, Bool, false, not, List, [], ◌∷◌, eqb, leb, get_or}
+use Rattle.std.specs.Prelude.{◌+◌, Bool, false, not, List, [], ◌∷◌, eqb, leb, get_or, None, Some, Option}
 use Rattle.bits.specs.Choice.{both}
 use Rattle.bits.specs.Number.{field}
 use Rattle.bits.specs.Loop.{tab}
@@ -10,8 +10,7 @@ use Rattle.model.specs.Map.{Image, equalizer_limit, amplitude_support, pre_limit
 use Rattle.model.specs.Records.{no_settings}
 use Rattle.model.specs.Applications.{app_sel_count, lookup}
 use Rattle.model.specs.declared.lane.Settings.{Settings}
-use Rattle.model.specs.declared.application.Lookup.{Lookup}
-use Rattle.model.specs.declared.application.Lookup.TheVariants.{Missing, Found}
+use Rattle.model.specs.declared.application.Descriptor.{Descriptor}
 
 -- ---- one lane's settings
 
@@ -57,7 +56,7 @@ pub record View : Type 0 where
   pub active : List Settings
   pub staged : List Settings
   pub states : List Code
-  pub applications : List Lookup
+  pub applications : List (Option Descriptor)
   pub limits : Limits
 
 unfoldable pub limits_of : Image → Limits
@@ -76,7 +75,7 @@ settings_of base x = tab lane_count (settings_at base x)
 unfoldable pub states_of : Image → List Code
 states_of x = tab lane_count (λ l. get x (state_at l))
 
-unfoldable pub applications_of : Image → List Lookup
+unfoldable pub applications_of : Image → List (Option Descriptor)
 applications_of x = tab app_sel_count (lookup x)
 
 -- the view, with the staged set at a base
@@ -97,8 +96,8 @@ of hs l = get_or hs l no_settings
 abbrev pub state_in : List Code → Lane → Code
 state_in ss l = get_or ss l 0
 
-abbrev pub application_in : List Lookup → AppSel → Lookup
-application_in apps a = get_or apps a Missing
+abbrev pub application_in : List (Option Descriptor) → AppSel → Option Descriptor
+application_in apps a = get_or apps a None
 
 -- ---- paths over the active settings (01, below the refusal list)
 
@@ -116,6 +115,6 @@ unfoldable pub path_of : List Settings → Lane → LaneSet
 path_of active l = mask_of lane_count (same_path active l)
 
 -- the set g is f .. f + n - 1, for a descriptor of n lanes that allows f
-unfoldable pub fills : Lookup → PathId → LaneSet → Bool
-fills Missing f g = false
-fills (Found d) f g = both (has d.firsts f) (both (leb (f + d.count) lane_count) (eqb g (mask_of lane_count (within f d.count))))
+unfoldable pub fills : Option Descriptor → PathId → LaneSet → Bool
+fills None f g = false
+fills (Some d) f g = both (has d.firsts f) (both (leb (f + d.count) lane_count) (eqb g (mask_of lane_count (within f d.count))))

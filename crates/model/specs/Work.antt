@@ -1,5 +1,5 @@
 -- A work step: what it copies, and how a group closes (01 "Work step").
-use Rattle.std.specs.Prelude.{suc, Bool, true, false, not, [], eqb, ltb, get_or}
+use Rattle.std.specs.Prelude.{suc, Bool, true, false, not, [], eqb, ltb, get_or, None, Some, Option}
 use Rattle.bits.specs.Choice.{pick}
 use Rattle.bits.specs.Loop.{each}
 use Rattle.bits.specs.Place.{get, put}
@@ -18,8 +18,7 @@ use Rattle.model.specs.declared.lane.Trigger.{Trigger}
 use Rattle.model.specs.declared.lane.Trigger.TheVariants.{DpInit, Immediate}
 use Rattle.model.specs.declared.lane.Verdict.{Verdict}
 use Rattle.model.specs.declared.lane.Verdict.TheVariants.{Pass, Reject}
-use Rattle.model.specs.declared.lane.Stage.{Stage}
-use Rattle.model.specs.declared.lane.Stage.TheVariants.{Idle, InProgress}
+use Rattle.model.specs.declared.lane.Progress.{Progress}
 use Rattle.model.specs.declared.lane.Working.{Working}
 
 -- ---- copying
@@ -97,9 +96,9 @@ unfoldable pub work_effect_by : Verdict → Mode → State → LaneSet → Trigg
 work_effect_by (Reject code) mode s g t = on_state (closed_state s.image s.working g code)
 work_effect_by (Pass n) mode s g t = pick (ltb n lane_count) (on_state (copied_state mode s g n)) (closing_effect mode s g t)
 
-unfoldable pub work_effect_on : Stage → Mode → State → Effect
-work_effect_on Idle mode s = on_state s
-work_effect_on (InProgress p) mode s = work_effect_by p.verdict mode s p.group p.trigger
+unfoldable pub work_effect_on : Option Progress → Mode → State → Effect
+work_effect_on None mode s = on_state s
+work_effect_on (Some p) mode s = work_effect_by p.verdict mode s p.group p.trigger
 
 unfoldable pub work_effect : Mode → State → Lane → Effect
 work_effect mode s l = work_effect_on (stage_at s.working l) mode s

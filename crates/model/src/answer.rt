@@ -3,7 +3,7 @@ ghost use Rattle.std.specs.Prelude.{◌≡◌};
 ghost use Rattle.model.specs.Answers.{number};
 
 // The answer to a call.
-#[derive(Clone, Copy)]
+#[derive(Clone, Copy, PartialEq, Eq)]
 pub enum Answer {
     Done,
     WrongLength,
@@ -18,12 +18,12 @@ pub enum Answer {
     BackToFront,
 }
 
-impl Answer {
-    // The answer's number in the refusal list.
-    pub fn number(self) -> u8
-        ensures { result ≡ number self }
-    {
-        match self {
+// The answer's number in the refusal list.
+impl From<Answer> for u8 {
+    ghost from_gives = { λ answer n. n ≡ number answer };
+
+    fn from(answer: Answer) -> u8 {
+        match answer {
             Answer::Done => 0,
             Answer::WrongLength => 1,
             Answer::FlatMemory => 2,

@@ -6,10 +6,3 @@ pub struct Descriptor {
     pub count: u8,
     pub firsts: u8,
 }
-
-// The answer of a lookup: a descriptor that is not there is an answer of its own.
-#[derive(Clone, Copy)]
-pub enum Lookup {
-    Missing,
-    Found(Descriptor),
-}

@@ -47,11 +47,13 @@ impl CommandStatus {
     const UNKNOWN_NUMBER: u8 = 0x41;
 
     const WRONG_CODE: u8 = 0x45;
+}
 
-    // What becomes of a message whose code is right, by its number.
-    pub fn of(number: u16) -> Self
-        ensures { result ≡ status_among commands number }
-    {
+// What becomes of a message whose code is right, by its number.
+impl From<u16> for CommandStatus {
+    ghost from_gives = { λ number status. status ≡ status_among commands number };
+
+    fn from(number: u16) -> Self {
         match number {
             Command::QUERY_STATUS => CommandStatus::Success(Command::QueryStatus),
             Command::MODULE_FEATURES => CommandStatus::Success(Command::ModuleFeatures),
@@ -60,12 +62,14 @@ impl CommandStatus {
             _ => CommandStatus::UnknownNumber,
         }
     }
+}
 
-    // Its code in lower 37.
-    pub fn code(self) -> u8
-        ensures { result ≡ status_code self }
-    {
-        match self {
+// Its code in lower 37.
+impl From<CommandStatus> for u8 {
+    ghost from_gives = { λ status code. code ≡ status_code status };
+
+    fn from(status: CommandStatus) -> u8 {
+        match status {
             CommandStatus::Success(_) => CommandStatus::SUCCESS,
             CommandStatus::UnknownNumber => CommandStatus::UNKNOWN_NUMBER,
             CommandStatus::WrongCode => CommandStatus::WRONG_CODE,

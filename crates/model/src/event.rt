@@ -1,4 +1,5 @@
 // Events: what can happen to the module.
+ghost use Rattle.std.specs.Prelude.{◌≡◌};
 
 // What is asked, with its arguments. Power is in tenths of a microwatt. A condition comes once; a lasting one begins on some lanes and ends on others. The module
 // moves one state on; the low-power line is set.
@@ -20,4 +21,16 @@ pub enum Call {
 pub struct Event {
     pub call: Call,
     pub bytes: [u8; 8],
+}
+
+// An event that needs no bytes.
+impl From<Call> for Event {
+    ghost from_gives = { λ call event. event.call ≡ call };
+
+    fn from(call: Call) -> Self {
+        Event {
+            call,
+            bytes: [0; 8],
+        }
+    }
 }

@@ -4,7 +4,7 @@ ghost use Rattle.model.specs.Map.{staged_base};
 ghost use Rattle.model.specs.Records.{idle_record, idle_working};
 
 // The settings of one lane, a number for each of its fields.
-#[derive(Clone, Copy)]
+#[derive(Clone, Copy, PartialEq, Eq)]
 pub struct Settings {
     pub config: u8,
     pub adaptive: u8,
@@ -17,14 +17,14 @@ pub struct Settings {
 }
 
 // Which trigger began an Apply.
-#[derive(Clone, Copy)]
+#[derive(Clone, Copy, PartialEq, Eq)]
 pub enum Trigger {
     DpInit,
     Immediate,
 }
 
 // Which staged set an Apply is of.
-#[derive(Clone, Copy)]
+#[derive(Clone, Copy, PartialEq, Eq)]
 pub enum StagedSet {
     Set0,
     Set1,
@@ -53,15 +53,8 @@ pub struct Apply {
     pub set: StagedSet,
 }
 
-// What a place of the image is to triggers: none's, or one's.
-#[derive(Clone, Copy)]
-pub enum TriggerPlace {
-    NoTrigger,
-    Applies(Apply),
-}
-
 // What was decided at the trigger: a pass with the lane to be copied next (the lane count where none is left), or a rejection with its code.
-#[derive(Clone, Copy)]
+#[derive(Clone, Copy, PartialEq, Eq)]
 pub enum Verdict {
     Pass(u8),
     Reject(u8),
@@ -77,17 +70,10 @@ pub struct Progress {
     pub verdict: Verdict,
 }
 
-// The stage that a lane's Apply has reached.
-#[derive(Clone, Copy)]
-pub enum Stage {
-    Idle,
-    InProgress(Progress),
-}
-
-// What is kept of one lane beside its registers: the stage of its Apply, and which of its flags that can last are on, a bit for each, the first lowest.
+// What is kept of one lane beside its registers: its Apply under way, none where the lane is idle, and which of its flags that can last are on, a bit for each, the first lowest.
 #[derive(Clone, Copy)]
 pub struct LaneRecord {
-    pub stage: Stage,
+    pub stage: Option<Progress>,
     pub on: u16,
 }
 
@@ -97,10 +83,7 @@ impl LaneRecord {
     fn idle() -> Self
         ensures { result ≡ idle_record }
     {
-        LaneRecord {
-            stage: Stage::Idle,
-            on: 0,
-        }
+        LaneRecord { stage: None, on: 0 }
     }
 }
 
@@ -116,9 +99,8 @@ impl Working {
     pub fn idle() -> Self
         ensures { result ≡ idle_working }
     {
-        let record = LaneRecord::idle();
         Working {
-            lanes: [record; 8],
+            lanes: [LaneRecord::idle(); 8],
             line: false,
         }
     }

@@ -3,7 +3,7 @@ ghost use Rattle.std.specs.Prelude.{◌≡◌};
 ghost use Rattle.model.specs.PathStates.{code_of, state_of};
 
 // A path's state; Reserved stands for the codes that name none.
-#[derive(Clone, Copy)]
+#[derive(Clone, Copy, PartialEq, Eq)]
 pub enum PathState {
     Reserved,
     Deactivated,
@@ -29,7 +29,7 @@ impl PathState {
 
     pub const DEACTIVATED: u8 = 1;
 
-    pub const INIT: u8 = 2;
+    const INIT: u8 = 2;
 
     const DEINIT: u8 = 3;
 
@@ -40,11 +40,13 @@ impl PathState {
     const TX_TURN_OFF: u8 = 6;
 
     pub const INITIALIZED: u8 = 7;
+}
 
-    // The state that a code names.
-    pub fn of(code: u8) -> Self
-        ensures { result ≡ state_of code }
-    {
+// The state that a code names.
+impl From<u8> for PathState {
+    ghost from_gives = { λ code state. state ≡ state_of code };
+
+    fn from(code: u8) -> Self {
         match code {
             PathState::DEACTIVATED => PathState::Deactivated,
             PathState::INIT => PathState::Init,
@@ -56,12 +58,14 @@ impl PathState {
             _ => PathState::Reserved,
         }
     }
+}
 
-    // The code of a state.
-    pub fn code(self) -> u8
-        ensures { result ≡ code_of self }
-    {
-        match self {
+// The code of a state.
+impl From<PathState> for u8 {
+    ghost from_gives = { λ state code. code ≡ code_of state };
+
+    fn from(state: PathState) -> u8 {
+        match state {
             PathState::Reserved => PathState::RESERVED,
             PathState::Deactivated => PathState::DEACTIVATED,
             PathState::Init => PathState::INIT,

@@ -3,7 +3,7 @@ ghost use Rattle.std.specs.Prelude.{◌≡◌};
 ghost use Rattle.model.specs.Power.{module_code_of, module_state_of};
 
 // The module's state; Other stands for the codes that name none of these.
-#[derive(Clone, Copy)]
+#[derive(Clone, Copy, PartialEq, Eq)]
 pub enum ModuleState {
     Other,
     LowPwr,
@@ -19,14 +19,16 @@ impl ModuleState {
 
     const PWR_UP: u8 = 2;
 
-    pub const READY: u8 = 3;
+    const READY: u8 = 3;
 
     const PWR_DN: u8 = 4;
+}
 
-    // The state that a code names.
-    pub fn of(code: u8) -> Self
-        ensures { result ≡ module_state_of code }
-    {
+// The state that a code names.
+impl From<u8> for ModuleState {
+    ghost from_gives = { λ code state. state ≡ module_state_of code };
+
+    fn from(code: u8) -> Self {
         match code {
             ModuleState::LOW_PWR => ModuleState::LowPwr,
             ModuleState::PWR_UP => ModuleState::PwrUp,
@@ -35,12 +37,14 @@ impl ModuleState {
             _ => ModuleState::Other,
         }
     }
+}
 
-    // The code of a state.
-    pub fn code(self) -> u8
-        ensures { result ≡ module_code_of self }
-    {
-        match self {
+// The code of a state.
+impl From<ModuleState> for u8 {
+    ghost from_gives = { λ state code. code ≡ module_code_of state };
+
+    fn from(state: ModuleState) -> u8 {
+        match state {
             ModuleState::Other => ModuleState::OTHER,
             ModuleState::LowPwr => ModuleState::LOW_PWR,
             ModuleState::PwrUp => ModuleState::PWR_UP,

@@ -2,14 +2,11 @@
 #![tactic(auto)]
 
 ghost use Rattle.std.specs.Prelude.{◌≡◌, ◌≤◌, length};
-ghost use Rattle.model.specs.Map.{image_length};
 ghost use Rattle.model.specs.File.{file_check};
-ghost use Rattle.model.specs.declared.file.FileCheck.TheVariants as found;
 ghost use Rattle.night_text.specs.Buffer.{longest_line};
 
-use map::IMAGE_LENGTH;
 use model::answer::Answer;
-use model::file::FileCheck;
+use model::image::{IMAGE_LENGTH, Image};
 use model::lane::Working;
 use std::io;
 use std::io::Read;
@@ -23,7 +20,7 @@ const OUTPUT: usize = 16384;
 fn print_bad(rt: &impl Print, answer: Answer, out: &mut [u8]) -> io::Result<()>
     requires { longest_line ≤ length out.old }
 {
-    let number = answer.number();
+    let number = u8::from(answer);
     let n = night_text::put_bad(out, 0, number);
     rt.write_all(&out[..n])
 }
@@ -33,31 +30,31 @@ fn print_lines(
     rt: &impl Print,
     file: &[u8],
     count: u32,
-    image: &mut [u8],
+    image: &mut Image,
     out: &mut [u8],
 ) -> io::Result<()>
-    requires { (file_check file.now ≡ found.Good count) × (length image.old ≡ image_length) × (longest_line ≤ length out.old) }
+    requires { (file_check file.now ≡ Ok count) × (longest_line ≤ length out.old) }
 {
-    let offset = night_file::records_offset(file);
-    night_runs::start_image(file, offset, image);
+    let night = night_file::parts(file);
+    night_runs::start_image(night.image, image);
     let mut working = Working::idle();
     let mut next = 0;
-    while next < count {
-        let come = night_runs::play_run(image, working, file, offset, next, count, out);
-        rt.write_all(&out[..come.at])?;
+    while next < night.records.len() {
+        let come = night_runs::play_run(image, working, night, next, out);
+        rt.write_all(&out[..come.reached.at])?;
         next = come.next;
-        working = come.working;
+        working = come.reached.working;
     }
     Ok(())
 }
 
-fn print_night(rt: &impl Print, file: &[u8], image: &mut [u8], out: &mut [u8]) -> io::Result<()>
-    requires { (length image.old ≡ image_length) × (longest_line ≤ length out.old) }
+fn print_night(rt: &impl Print, file: &[u8], image: &mut Image, out: &mut [u8]) -> io::Result<()>
+    requires { longest_line ≤ length out.old }
 {
     let found = night_file::check(file);
     match found {
-        FileCheck::Refused(answer) => print_bad(rt, answer, out),
-        FileCheck::Good(count) => print_lines(rt, file, count, image, out),
+        Err(answer) => print_bad(rt, answer, out),
+        Ok(count) => print_lines(rt, file, count, image, out),
     }
 }
 
@@ -80,10 +77,10 @@ fn read_full(input: &mut impl Read, buffer: &mut [u8]) -> usize
 fn replay_input(
     rt: &(impl Input + Print),
     input: &mut [u8],
-    image: &mut [u8],
+    image: &mut Image,
     out: &mut [u8],
 ) -> io::Result<()>
-    requires { (length image.old ≡ image_length) × (longest_line ≤ length out.old) }
+    requires { longest_line ≤ length out.old }
 {
     let n = read_full(&mut rt.reader(), input);
     print_night(rt, &input[..n], image, out)

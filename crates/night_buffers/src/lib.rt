@@ -6,7 +6,6 @@ ghost use Rattle.model.specs.Answers.{number};
 ghost use Rattle.model.specs.Text.{bad_line};
 ghost use Rattle.contracts.specs.Texts.{Gives, count_of};
 
-use contracts::Replayed;
 use model::answer::Answer;
 
 // The room that a bad line asks for.
@@ -16,22 +15,23 @@ const BAD_ROOM: usize = 7;
 const SHORT_BUFFER: usize = 18446744073709551615;
 
 // The line of a file that is not replayed.
-pub fn print_bad(answer: Answer, out: &mut [u8]) -> Replayed
+pub fn print_bad(answer: Answer, out: &mut [u8]) -> Option<usize>
     ensures { Gives 7 (bad_line (number answer)) out.old out.new result }
 {
     if out.len() < BAD_ROOM {
-        return Replayed::ShortBuffer;
+        return None;
     }
-    let n = night_text::put_bad(out, 0, answer.number());
-    Replayed::Printed(n)
+    let n = night_text::put_bad(out, 0, u8::from(answer));
+    Some(n)
 }
 
 // The answer as a number.
-pub fn count_of(answer: Replayed) -> usize
+#[tactic(auto, unfolding(contracts::specs::Texts::count_of))]
+pub fn count_of(answer: Option<usize>) -> usize
     ensures { result ≡ count_of answer }
 {
     match answer {
-        Replayed::ShortBuffer => SHORT_BUFFER,
-        Replayed::Printed(n) => n,
+        None => SHORT_BUFFER,
+        Some(n) => n,
     }
 }

@@ -1,10 +1,27 @@
 -- The characters of decimal digits: of one, and of four as one number, got from a number and its tenths. Assumes nothing.
-use mathlib.Core.Path.{◌≡◌}
+use mathlib.Core.Path.{◌≡◌, refl}
+use mathlib.Core.Bool.{true}
+use mathlib.Core.List.{List, [], ◌∷◌}
 use Prim.Native.Nat.{ℕ, ◌+◌, ◌*◌, ◌-◌, ◌/◌, ◌%◌, ◌≤◌, ◌<◌}
 use native.Mathlib.Omega.{arith}
-use borrow.Author.Tests.{lt-ltb}
-use Rattle.bits.specs.Choice.{pick}
+use borrow.Author.Tests.{lt-ltb, eqb-true}
+use lib.Dec.{eqb}
+use lib.ListN.{get_or}
+use Rattle.bits.specs.Choice.{pick, both}
+use Rattle.bits.specs.Loop.{all_below}
+use Rattle.bits.proofs.Loops.{all_at}
 use Rattle.model.specs.Text.{digit_text}
+
+-- the sixteen characters, one after the other
+abbrev digits : List ℕ
+digits = 0x30 ∷ 0x31 ∷ 0x32 ∷ 0x33 ∷ 0x34 ∷ 0x35 ∷ 0x36 ∷ 0x37 ∷ 0x38 ∷ 0x39 ∷ 0x61 ∷ 0x62 ∷ 0x63 ∷ 0x64 ∷ 0x65 ∷ 0x66 ∷ []
+
+every_digit : all_below 16 (λ d. eqb (get_or digits d 0) (digit_text d)) ≡ true
+unfolding all_below both digit_text pick
+every_digit = refl
+
+pub digit_at : (d : ℕ) → d < 16 → get_or digits d 0 ≡ digit_text d
+digit_at d h = eqb-true _ _ (all_at 16 _ every_digit d h)
 
 pub decimal_digit : (d : ℕ) → d < 10 → digit_text d ≡ 0x30 + d
 unfolding digit_text pick

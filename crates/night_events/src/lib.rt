@@ -1,90 +1,83 @@
 // The event of each record of a night file, by the edition of its file.
 #![tactic(auto)]
 
-ghost use Rattle.std.specs.Prelude.{◌≡◌, ◌≤◌, ◌<◌, length};
-ghost use Rattle.model.specs.File.{later_editions, edition_among, kind_of, condition_kind, sample_kind, line_kind, sample_call, call_of, event_of, record_length};
+ghost use Rattle.std.specs.Prelude.{◌≡◌};
+ghost use Rattle.model.specs.File.{kind_of, condition_kind, module_kind, line_kind, sample_call, call_of, event_of};
+ghost use Rattle.night_records.specs.Edition.{row_of};
+ghost use Rattle.night_events.specs.Power.{power_call};
 
 use model::event::{Call, Event};
-use night_records::{
-    CONDITION, FOURTH_EDITION, HARDWARE, LINE, MODULE, READ, THIRD_EDITION, WORK, WRITE,
-};
+use night_records::{Edition, Kind, Record};
 
 // The call of a condition's record, in an edition: it comes once in the first two, and lasts from the third on.
-fn condition_call(bytes: &[u8], edition: u8) -> Call
-    requires { (record_length ≤ length bytes.now) × (kind_of bytes.now ≡ condition_kind) }
-    ensures { result ≡ call_of (edition_among later_editions edition).forms bytes.now }
+#[tactic(auto, unfolding(model::specs::File::edition_among, model::specs::File::call_of, bits::specs::Choice::pick))]
+fn condition_call(bytes: &Record, edition: Edition) -> Call
+    requires { kind_of bytes.now ≡ condition_kind }
+    ensures { result ≡ call_of (row_of edition).forms bytes.now }
 {
-    if (edition == THIRD_EDITION) | (edition == FOURTH_EDITION) {
-        return Call::Lasting {
+    match edition {
+        Edition::First | Edition::Second => Call::Condition {
+            flag: bytes[1],
+            mask: bytes[2],
+        },
+        Edition::Third | Edition::Fourth => Call::Lasting {
             flag: bytes[1],
             on: bytes[2],
             off: bytes[3],
-        };
-    }
-    Call::Condition {
-        flag: bytes[1],
-        mask: bytes[2],
+        },
     }
 }
 
 // The call of a sample's record, and of one whose kind is not listed, which is never replayed.
-fn sample_call(bytes: &[u8]) -> Call
-    requires { record_length ≤ length bytes.now }
+fn sample_call(bytes: &Record) -> Call
     ensures { result ≡ sample_call bytes.now }
 {
-    let high = bytes[2];
-    let low = bytes[3];
     Call::Sample {
         lane: bytes[1],
-        power: (high as u16) * 256 + (low as u16),
+        power: u16::from_be_bytes([bytes[2], bytes[3]]),
     }
 }
 
 // The call of a record of the module's power, in an edition: it is listed from the fourth on.
-fn power_call(bytes: &[u8], edition: u8) -> Call
-    requires { (record_length ≤ length bytes.now) × (sample_kind < kind_of bytes.now) × (kind_of bytes.now ≤ line_kind) }
-    ensures { result ≡ call_of (edition_among later_editions edition).forms bytes.now }
+fn power_call(bytes: &Record, edition: Edition, listed: Call) -> Call
+    ensures { result ≡ power_call edition listed bytes.now }
 {
-    let kind = bytes[0];
-    let on = bytes[1] == 1;
-    if edition != FOURTH_EDITION {
-        return sample_call(bytes);
+    match edition {
+        Edition::First | Edition::Second | Edition::Third => sample_call(bytes),
+        Edition::Fourth => listed,
     }
-    if kind == MODULE {
-        return Call::Module;
-    }
-    Call::Line { on }
 }
 
 // The call of a record, in an edition.
-fn call_of(bytes: &[u8], edition: u8) -> Call
-    requires { record_length ≤ length bytes.now }
-    ensures { result ≡ call_of (edition_among later_editions edition).forms bytes.now }
+fn call_of(bytes: &Record, edition: Edition) -> Call
+    ensures { result ≡ call_of (row_of edition).forms bytes.now }
 {
+    let Ok(kind) = Kind::try_from(bytes[0]) else {
+        return sample_call(bytes);
+    };
     let first = bytes[1];
-    let second = bytes[2];
-    match bytes[0] {
-        WRITE => Call::Write {
+    match kind {
+        Kind::Write => Call::Write {
             address: first,
-            count: second,
+            count: bytes[2],
         },
-        READ => Call::Read {
+        Kind::Read => Call::Read {
             address: first,
-            count: second,
+            count: bytes[2],
         },
-        WORK => Call::Work { lane: first },
-        HARDWARE => Call::Hardware { lane: first },
-        CONDITION => condition_call(bytes, edition),
-        MODULE => power_call(bytes, edition),
-        LINE => power_call(bytes, edition),
-        _ => sample_call(bytes),
+        Kind::Work => Call::Work { lane: first },
+        Kind::Hardware => Call::Hardware { lane: first },
+        Kind::Condition => condition_call(bytes, edition),
+        Kind::Sample => sample_call(bytes),
+        Kind::Module => power_call(bytes, edition, Call::Module),
+        Kind::Line => power_call(bytes, edition, Call::Line { on: first == 1 }),
     }
 }
 
 // The event of a record, in an edition.
-pub fn event_of(bytes: &[u8], edition: u8) -> Event
-    requires { record_length ≤ length bytes.now }
-    ensures { result ≡ event_of (edition_among later_editions edition) bytes.now }
+#[tactic(auto, unfolding(model::specs::File::event_of, bits::specs::Loop::tab))]
+pub fn event_of(bytes: &Record, edition: Edition) -> Event
+    ensures { result ≡ event_of (row_of edition) bytes.now }
 {
     let call = call_of(bytes, edition);
     let data = [

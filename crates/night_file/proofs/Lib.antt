@@ -1,3 +1,3 @@
--- The laws of the check of a file, and of its image.
+-- The laws of the parts of a file, and of its check.
 pub mod Checks
-pub mod Images
+pub mod Cuts

@@ -1,30 +1,18 @@
-// Night files: the header, and the check of a whole file.
+// Night files: the header, the parts, and the check of a whole file.
 #![tactic(auto)]
 
-ghost use Rattle.std.specs.Prelude.{◌≡◌, ◌+◌, ◌*◌, ◌≤◌, length, get_or};
+ghost use Rattle.std.specs.Prelude.{◌≡◌, ◌+◌, ◌*◌, ◌≤◌, length, get_or, []};
 ghost use Rattle.bits.specs.Choice.{both};
 ghost use Rattle.bits.specs.Loop.{all_below};
 ghost use Rattle.model.specs.Map.{image_length};
 ghost use Rattle.model.specs.Refusals.{first_of, start_refusals};
-ghost use Rattle.model.specs.File.{later_editions, edition_among, edition_of, is_header, is_whole_length, record_count, is_record, laid_out, record_in, file_check, image_offset, records_offset, record_limit, record_length};
+ghost use Rattle.model.specs.File.{edition_of, is_header, is_whole_length, record_count, is_record, laid_out, file_check, records_offset, record_limit, record_length};
+ghost use Rattle.night_records.specs.Edition.{row_of};
+ghost use Rattle.night_file.specs.Parts.{IsNight};
 
-use map::IMAGE_LENGTH;
 use model::answer::Answer;
-use model::file::FileCheck;
-use night_records::{FOURTH_EDITION, RECORD_LENGTH, THIRD_EDITION};
-
-// The editions: their numbers, and how many bytes of the image they carry.
-const FIRST_EDITION: u8 = 1;
-
-const FIRST_IMAGE_BYTES: usize = 768;
-
-const SECOND_EDITION: u8 = 2;
-
-const SECOND_IMAGE_BYTES: usize = 896;
-
-const THIRD_IMAGE_BYTES: usize = 896;
-
-const FOURTH_IMAGE_BYTES: usize = 896;
+use model::image::IMAGE_LENGTH;
+use night_records::{Edition, RECORD_LENGTH, Record};
 
 // The header: its two letters, and where its numbers and the image lie.
 const LETTER_W: u8 = 0x57;
@@ -35,85 +23,64 @@ const EDITION_AT: usize = 2;
 
 const COUNT_AT: usize = 4;
 
-pub const IMAGE_OFFSET: usize = 16;
+const IMAGE_OFFSET: usize = 16;
+
+pub type Header = [u8; IMAGE_OFFSET];
 
 const RECORD_LIMIT: u32 = 5000;
 
-// An edition of the file: its number, and how many bytes of the image it carries.
-#[derive(Clone, Copy)]
-struct Edition {
-    number: u8,
-    image_bytes: usize,
-}
-
-// The edition of a number; the first where no later one has it.
-fn edition_of(number: u8) -> Edition
-    ensures { (result.number ≡ (edition_among later_editions number).number) × (result.image_bytes ≡ (edition_among later_editions number).image_bytes) }
+// The number of an edition.
+#[tactic(auto, unfolding(model::specs::File::edition_among, bits::specs::Choice::pick))]
+fn number_of(edition: Edition) -> u8
+    ensures { result ≡ (row_of edition).number }
 {
-    match number {
-        SECOND_EDITION => Edition {
-            number: SECOND_EDITION,
-            image_bytes: SECOND_IMAGE_BYTES,
-        },
-        THIRD_EDITION => Edition {
-            number: THIRD_EDITION,
-            image_bytes: THIRD_IMAGE_BYTES,
-        },
-        FOURTH_EDITION => Edition {
-            number: FOURTH_EDITION,
-            image_bytes: FOURTH_IMAGE_BYTES,
-        },
-        _ => Edition {
-            number: FIRST_EDITION,
-            image_bytes: FIRST_IMAGE_BYTES,
-        },
+    match edition {
+        Edition::First => 1,
+        Edition::Second => 2,
+        Edition::Third => 3,
+        Edition::Fourth => 4,
     }
 }
 
 // How many bytes of the image an edition carries.
-pub fn image_bytes(edition: u8) -> usize
-    ensures { result ≡ (edition_among later_editions edition).image_bytes }
+#[tactic(auto, unfolding(model::specs::File::edition_among, bits::specs::Choice::pick))]
+pub fn image_bytes(edition: Edition) -> usize
+    ensures row { result ≡ (row_of edition).image_bytes }
+    ensures fits { result ≤ image_length }
 {
-    let row = edition_of(edition);
-    row.image_bytes
+    match edition {
+        Edition::First => 768,
+        Edition::Second => 896,
+        Edition::Third => 896,
+        Edition::Fourth => 896,
+    }
 }
 
 // The edition that a header names.
-pub fn edition_in(header: &[u8]) -> u8
-    requires { image_offset ≤ length header.now }
-    ensures { result ≡ get_or header.now 2 0 }
+fn edition_in(header: &Header) -> Edition
+    ensures { row_of result ≡ edition_of header.now }
 {
-    header[EDITION_AT]
-}
-
-// Where the records of a file begin: they follow its image.
-pub fn records_offset(header: &[u8]) -> usize
-    requires { image_offset ≤ length header.now }
-    ensures { result ≡ records_offset (edition_of header.now) }
-{
-    IMAGE_OFFSET + image_bytes(header[EDITION_AT])
+    Edition::from(header[EDITION_AT])
 }
 
 // How many records a header counts.
-pub fn record_count(header: &[u8]) -> u32
-    requires { image_offset ≤ length header.now }
+pub fn record_count(header: &Header) -> u32
     ensures { result ≡ record_count header.now }
 {
     bits_words::word4(header, COUNT_AT)
 }
 
 // Whether a header is as it must be, with no more records than a limit.
-pub fn is_header(header: &[u8], limit: u32) -> bool
-    requires { image_offset ≤ length header.now }
+pub fn is_header(header: &Header, limit: u32) -> bool
     ensures { result ≡ is_header limit header.now }
 {
-    let edition = edition_of(header[EDITION_AT]);
+    let edition = edition_in(header);
     let letters = (header[0] == LETTER_W) & (header[1] == LETTER_L);
-    let known = (header[EDITION_AT] == edition.number) & (header[3] == 0);
+    let known = (header[EDITION_AT] == number_of(edition)) & (header[3] == 0);
     let count = record_count(header);
     let image_at = bits_words::word4(header, 8) as usize;
     let records_at = bits_words::word4(header, 12) as usize;
-    let offset = IMAGE_OFFSET + edition.image_bytes;
+    let offset = IMAGE_OFFSET + image_bytes(edition);
     letters & (known & ((count <= limit) & ((image_at == IMAGE_OFFSET) & (records_at == offset))))
 }
 
@@ -121,23 +88,44 @@ pub fn is_header(header: &[u8], limit: u32) -> bool
 fn is_framed(file: &[u8]) -> bool
     ensures { result ≡ both (is_header record_limit file.now) (is_whole_length file.now) }
 {
-    if file.len() < IMAGE_OFFSET {
+    let Some(header) = file.first_chunk() else {
         return false;
-    }
-    let count = record_count(file) as usize;
-    let whole = file.len() == records_offset(file) + RECORD_LENGTH * count;
-    is_header(file, RECORD_LIMIT) & whole
+    };
+    let offset = IMAGE_OFFSET + image_bytes(edition_in(header));
+    let whole = file.len() == offset + RECORD_LENGTH * (record_count(header) as usize);
+    is_header(header, RECORD_LIMIT) & whole
 }
 
-// Whether every record of a file is one.
-fn are_records(file: &[u8], offset: usize, count: u32) -> bool
-    requires { (offset ≡ records_offset (edition_of file.now)) × (offset + record_length * count ≤ length file.now) }
-    ensures { result ≡ all_below count (λ k. is_record (edition_of file.now) (record_in file.now k)) }
+// A night file in its parts: its edition, the bytes that it carries of its image, and its records.
+#[derive(Clone, Copy)]
+pub struct Night<'a> {
+    pub edition: Edition,
+    pub image: &'a [u8],
+    pub records: &'a [Record],
+}
+
+// The parts of a file of the length that its header names.
+pub fn parts(file: &[u8]) -> Night<'_>
+    requires { length file.now ≡ records_offset (edition_of file.now) + record_length * record_count file.now }
+    ensures { IsNight file.now result.edition result.image.now result.records.now }
 {
-    let edition = edition_in(file);
-    for k in 0..count {
-        let at = offset + RECORD_LENGTH * (k as usize);
-        if !night_records::is_record(&file[at..at + RECORD_LENGTH], edition) {
+    let (header, rest) = file.split_first_chunk().unwrap();
+    let edition = edition_in(header);
+    let (image, rest) = rest.split_at(image_bytes(edition));
+    let (records, _) = rest.as_chunks();
+    Night {
+        edition,
+        image,
+        records,
+    }
+}
+
+// Whether every record is one, in an edition.
+fn are_records(records: &[Record], edition: Edition) -> bool
+    ensures { result ≡ all_below (length records.now) (λ k. is_record (row_of edition) (get_or records.now k [])) }
+{
+    for record in records {
+        if !night_records::is_record(record, edition) {
             return false;
         }
     }
@@ -155,20 +143,19 @@ fn image_refusal(carried: &[u8]) -> Answer
 }
 
 // The check of a whole file: malformed first, then what start answers to its image.
-pub fn check(file: &[u8]) -> FileCheck
+pub fn check(file: &[u8]) -> Result<u32, Answer>
     ensures { result ≡ file_check file.now }
 {
     if !is_framed(file) {
-        return FileCheck::Refused(Answer::Malformed);
+        return Err(Answer::Malformed);
     }
-    let count = record_count(file);
-    let offset = records_offset(file);
-    if !are_records(file, offset, count) {
-        return FileCheck::Refused(Answer::Malformed);
+    let night = parts(file);
+    if !are_records(night.records, night.edition) {
+        return Err(Answer::Malformed);
     }
-    let answer = image_refusal(&file[IMAGE_OFFSET..offset]);
-    if answer.number() != 0 {
-        return FileCheck::Refused(answer);
+    let answer = image_refusal(night.image);
+    if answer != Answer::Done {
+        return Err(answer);
     }
-    FileCheck::Good(count)
+    Ok(night.records.len() as u32)
 }

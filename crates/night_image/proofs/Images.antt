@@ -1,32 +1,37 @@
 -- Laws of an image laid out at today's length: the bytes that a file carries, and zeros after them. Assumes nothing.
-use mathlib.Core.Path.{◌≡◌, refl, ap, ◌∙◌}
-use mathlib.Core.List.{List, [], ◌∷◌, ◌++◌}
-use Prim.Native.Nat.{ℕ, zero, suc, ◌+◌, ◌≤◌, ◌<◌}
-use native.Mathlib.Numerals.{add-one}
+use mathlib.Core.Path.{◌≡◌, sym, ap, ◌∙◌}
+use mathlib.Core.List.{List}
+use Prim.Native.Nat.{ℕ, ◌+◌, ◌-◌, ◌≤◌}
+use native.Mathlib.Decide.{dec_lt}
 use native.Mathlib.Omega.{arith}
-use lib.ListN.{length, get_or, set, take, drop}
-use lib.Seq.{take_all, take-length, take_at, take-suc-set, length-take-le, paste}
+use borrow.Author.Rules.{rules}
+use borrow.Rule.Slice.PartMut.{put_mid}
+use Rattle.std.proofs.lemmas.List.{places, get_or_past, get_or-replicate}
+use lib.ListN.{length, get_or, length-replicate, length-drop, length-take, take, drop, replicate}
+use lib.Seq.{length-take-le}
 use Rattle.model.specs.Map.{image_length}
 use Rattle.model.specs.File.{laid_out}
 use Rattle.model.proofs.Editions.{laid_out-same, laid_out-whole}
 
-zero-after : (bytes : List ℕ) (j : ℕ) → get_or (bytes ++ (0 ∷ [])) j 0 ≡ get_or bytes j 0
-zero-after [] zero = refl
-zero-after [] (suc j) = refl
-zero-after (b ∷ bytes) zero = refl
-zero-after (b ∷ bytes) (suc j) = zero-after bytes j
+after-front : (x zeros : List ℕ) (n m i : ℕ) → n ≤ i → n + m ≡ length x → length zeros ≡ m → get_or (put_mid n m x zeros) i 0 ≡ get_or zeros (i - n) 0
+after-front x zeros n m i f k g = search (rules, places)
 
--- a zero more after the bytes that are laid out
-pub clear_turn : (x : List ℕ) (i : ℕ) → i < length x → laid_out (take (i + 1) (set x i 0)) ≡ laid_out (take i x)
-clear_turn x i h = rw (add-one i, take-suc-set x i 0 h) (laid_out-same _ _ (λ j b. zero-after (take i x) j))
+-- zeros over the last m bytes, after those that are laid out
+filled : (x zeros : List ℕ) (n m : ℕ) → n + m ≡ length x → zeros ≡ replicate (length (take m (drop n x))) 0 → zeros ≡ replicate m 0
+filled x zeros n m k e = e ∙ ap (λ k. replicate k 0) (length-take-le m (drop n x) (omega (arith, length-drop n x)))
 
--- .. up to the last
-pub clear_end : (x : List ℕ) (i : ℕ) → length x ≡ image_length → image_length ≤ i → laid_out (take i x) ≡ x
-clear_end x i l h = ap laid_out (take_all i x (omega arith)) ∙ laid_out-whole x l
+zeroed : (x zeros : List ℕ) (n m : ℕ) → length x ≡ image_length → n + m ≡ length x → zeros ≡ replicate m 0 → length zeros ≡ m → put_mid n m x zeros ≡ laid_out (take n x)
+zeroed x zeros n m l k f g =
+    sym (laid_out-whole (put_mid n m x zeros) (search (rules, places)))
+    ∙ laid_out-same (put_mid n m x zeros) (take n x) (λ i b. elim (dec_lt i n) [
+      | yes a ↦ search (rules, places)
+      | no a ↦
+          after-front x zeros n m i (omega arith) k g
+          ∙ ap (λ r. get_or r (i - n) 0) f
+          ∙ get_or-replicate m (i - n) 0 0 (omega arith)
+          ∙ sym (get_or_past (take n x) i 0 (omega (arith, length-take n x)))
+    ])
 
--- bytes that were copied over the front
-pub copied-front : (x y bytes : List ℕ) → y ≡ paste x 0 (drop 0 bytes) (length bytes) → laid_out (take (length bytes) y) ≡ laid_out bytes
-copied-front x y bytes e =
-    let n = length bytes in
-    ap (λ r. laid_out (take n r)) e
-    ∙ ap laid_out (take_at (take n bytes) (drop (0 + n) x) n (length-take-le n bytes (omega arith)) ∙ take-length bytes)
+pub cleared : (x zeros : List ℕ) (n m : ℕ) → length x ≡ image_length → n + m ≡ length x → zeros ≡ replicate (length (take m (drop n x))) 0
+    → put_mid n m x zeros ≡ laid_out (take n x)
+cleared x zeros n m l k e = let f = filled x zeros n m k e in zeroed x zeros n m l k f (ap length f ∙ length-replicate m 0)

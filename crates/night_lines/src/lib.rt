@@ -7,15 +7,20 @@ ghost use Rattle.model.specs.Work.{early};
 ghost use Rattle.model.specs.Step.{read_count, step};
 ghost use Rattle.model.specs.State.{state_with};
 ghost use Rattle.model.specs.Outcome.{list_room};
-ghost use Rattle.model.specs.File.{later_editions, edition_among, event_of, record_length};
+ghost use Rattle.model.specs.File.{event_of};
 ghost use Rattle.night_lines.specs.Lines.{Turns};
-ghost use Rattle.model.specs.Map.{image_length};
 ghost use Rattle.model.specs.Text.{decimal};
 ghost use Rattle.night_text.specs.Buffer.{line_room};
-ghost use Rattle.model.specs.Access.{read_limit};
+ghost use Rattle.night_records.specs.Edition.{row_of};
 
+use access_limits::READ_LIMIT;
 use model::event::Call;
+use model::image::Image;
 use model::lane::Working;
+use night_records::{Edition, Record};
+
+// The longest line: an index of ten digits, an answer, 128 bytes.
+pub const LONGEST_LINE: usize = 397;
 
 // How far a replay has come: the bytes printed, and what the module keeps beside its image.
 #[derive(Clone, Copy)]
@@ -29,26 +34,20 @@ fn read_count(call: Call) -> usize
     ensures { result ≡ read_count call }
 {
     match call {
-        Call::Write {
-            address: _,
-            count: _,
-        } => 0,
-        Call::Read { address: _, count } => count as usize,
-        Call::Work { lane: _ } => 0,
-        Call::Hardware { lane: _ } => 0,
-        Call::Condition { flag: _, mask: _ } => 0,
-        Call::Sample { lane: _, power: _ } => 0,
-        Call::Lasting {
-            flag: _,
-            on: _,
-            off: _,
-        } => 0,
-        Call::Module => 0,
-        Call::Line { on: _ } => 0,
+        Call::Read { count, .. } => count as usize,
+        Call::Write { .. }
+        | Call::Work { .. }
+        | Call::Hardware { .. }
+        | Call::Condition { .. }
+        | Call::Sample { .. }
+        | Call::Lasting { .. }
+        | Call::Module
+        | Call::Line { .. } => 0,
     }
 }
 
 // How many of them it shows, by its answer's number.
+#[tactic(auto, unfolding(bits::specs::Choice::pick))]
 fn shown(answer: u8, count: usize) -> usize
     ensures { result ≡ pick (eqb answer 0) count 0 }
 {
@@ -60,26 +59,25 @@ fn shown(answer: u8, count: usize) -> usize
 
 // A record's turn: its event, by the edition of its file, then its line.
 pub fn turn(
-    image: &mut [u8],
+    image: &mut Image,
     reached: Reached,
-    buffer: &mut [u8],
-    bytes: &[u8],
-    edition: u8,
+    buffer: &mut [u8; READ_LIMIT],
+    bytes: &Record,
+    edition: Edition,
     index: u32,
     out: &mut [u8],
 ) -> Reached
-    requires { (length image.old ≡ image_length) × (length buffer.old ≡ read_limit) × (record_length ≤ length bytes.now) × (reached.at + line_room (length (decimal index)) ≤ length out.old) }
-    ensures { Turns (step early list_room (state_with image.old reached.working) (event_of (edition_among later_editions edition) bytes.now)) index reached.at buffer.old buffer.new out.old out.new image.new result }
+    requires { reached.at + line_room (length (decimal index)) ≤ length out.old }
+    ensures { Turns (step early list_room (state_with image.old reached.working) (event_of (row_of edition) bytes.now)) index reached.at buffer.old buffer.new out.old out.new image.new result }
 {
     let event = night_events::event_of(bytes, edition);
-    let call = event.call;
-    let asked = read_count(call);
-    let at = reached.at;
+    let asked = read_count(event.call);
     let left = step::step(image, reached.working, event, buffer);
-    let working = left.working;
-    let answer = left.answer;
-    let number = answer.number();
+    let number = u8::from(left.answer);
     let count = shown(number, asked);
-    let at = night_text::put_line(out, at, index, number, buffer, count);
-    Reached { at, working }
+    let at = night_text::put_line(out, reached.at, index, number, buffer, count);
+    Reached {
+        at,
+        working: left.working,
+    }
 }

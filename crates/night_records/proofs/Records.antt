@@ -5,7 +5,7 @@ use mathlib.Core.List.{List}
 use mathlib.Core.Logic.{◌≢◌}
 use Prim.Native.Nat.{ℕ, zero, suc, ◌+◌, ◌-◌, ◌*◌, ◌^◌, ◌≤◌, ◌<◌}
 use native.Mathlib.Nat.{add-zero}
-use native.Mathlib.Decide.{ℕ_discrete, dec_lt}
+use native.Mathlib.Decide.{dec_lt}
 use native.Mathlib.Omega.{arith}
 use lib.Dec.{eqb, leb, ltb}
 use lib.ListN.{get_or, take, drop}
@@ -15,7 +15,14 @@ use Rattle.bits.specs.Choice.{pick, both, either}
 use Rattle.bits.proofs.Tests.{and_both, split, bool_eq, implies_use, implies_i, both_i, both_l, both_r, pick_true, pick-false}
 use Rattle.bits.proofs.Loops.{all_at, all_intro}
 use Rattle.night_records.specs.Clear.{is_clear, is_clear_from, low_first, tail_of, front_of, condition_limit, power_limit, front_limit}
-use Rattle.model.specs.File.{Edition, later_editions, edition_among, kind_of, write_kind, read_kind, work_kind, hardware_kind, condition_kind, sample_kind, module_kind, line_kind, line_bytes, used_bytes, is_record, record_length}
+use Rattle.night_records.specs.Kind.{number_of}
+use Rattle.night_records.specs.declared.Kind.{Kind}
+use Rattle.night_records.specs.declared.Kind.TheVariants.{Write, Read, Work, Hardware, Condition, Sample, Module, Line}
+use Rattle.model.specs.File as file
+use Rattle.night_records.specs.Edition.{edition_number, row_of}
+use Rattle.night_records.specs.declared.Edition.{Edition}
+use Rattle.night_records.specs.declared.Edition.TheVariants.{First, Second, Third, Fourth}
+use Rattle.model.specs.File.{edition_among, kind_of, write_kind, read_kind, work_kind, hardware_kind, condition_kind, sample_kind, module_kind, line_kind, line_bytes, used_bytes, is_record, record_length}
 use Rattle.model.proofs.Editions.{six_forms}
 
 -- ---- tests
@@ -32,13 +39,16 @@ pub both_left : (a b : Bool) → a ≡ false → both a b ≡ false
 unfolding both
 both_left a b e = rw (e, both)
 
--- a record's bytes as the part that is lent
-pub part_from : (at : ℕ) (bytes : List ℕ) → take (at + record_length - at) (drop at bytes) ≡ take record_length (drop at bytes)
-part_from at bytes = let e : at + record_length - at ≡ record_length = omega arith in rw e
+-- a number that is no kind's, and a kind's
+pub no_kind : (n : ℕ) → (0 < n → line_kind < n) → (k : ℕ) → leb 1 k ≡ true → leb k line_kind ≡ true → eqb n k ≡ false
+no_kind n h k p q =
+    let a = leb-true 1 k p in
+    let b = leb-true k line_kind q in
+    ne_eqb n k (grind arith)
 
 -- ---- one record
 -- a record of a listed kind is one by the bytes that the kind does not use
-pub record_by : (e : Edition) (used : ℕ) (bytes : List ℕ) (r : Bool) → r ≡ is_clear_from used bytes → used_bytes e.forms bytes ≡ used → 0 < used → r ≡ is_record e bytes
+pub record_by : (e : file.Edition) (used : ℕ) (bytes : List ℕ) (r : Bool) → r ≡ is_clear_from used bytes → used_bytes e.forms bytes ≡ used → 0 < used → r ≡ is_record e bytes
 unfolding is_record is_clear_from both
 record_by e used bytes r p u h = rw (u, lt-ltb 0 used h, both) p
 
@@ -132,16 +142,19 @@ module _ (bytes : List ℕ) where
     front_below m h = bool_eq _ _ (front_clear m h) (clear_front m h)
 
     -- .. where it uses 1 + m bytes in an edition
-    front_record : (e : Edition) (m : ℕ) → m ≤ 3 → used_bytes e.forms bytes ≡ 1 + m → both (eqb (tail_of bytes) 0) (ltb (front_of bytes) (2 ^ (8 * m))) ≡ is_record e bytes
+    front_record : (e : file.Edition) (m : ℕ) → m ≤ 3 → used_bytes e.forms bytes ≡ 1 + m → both (eqb (tail_of bytes) 0) (ltb (front_of bytes) (2 ^ (8 * m))) ≡ is_record e bytes
     front_record e m h u = record_by e (1 + m) bytes _ (front_below m h) u (omega arith)
 
     -- .. where it uses none
-    no_record_lem : (e : Edition) → used_bytes e.forms bytes ≡ 0 → both (eqb (tail_of bytes) 0) (ltb (front_of bytes) 0) ≡ is_record e bytes
+    no_record_lem : (e : file.Edition) → used_bytes e.forms bytes ≡ 0 → is_record e bytes ≡ false
     unfolding is_record
-    no_record_lem e u = both_right _ _ (le-ltb (front_of bytes) 0 (omega arith)) ∙ sym (both_left _ _ (rw u))
+    no_record_lem e u = both_left _ _ (rw u)
+
+    none_below : (e : file.Edition) → used_bytes e.forms bytes ≡ 0 → both (eqb (tail_of bytes) 0) (ltb (front_of bytes) 0) ≡ is_record e bytes
+    none_below e u = both_right _ _ (le-ltb (front_of bytes) 0 (omega arith)) ∙ sym (no_record_lem e u)
 
     -- .. where it is a line: 0 or 1 behind its kind, and zeros
-    line_record : (e : Edition) → used_bytes e.forms bytes ≡ line_bytes bytes → both (eqb (tail_of bytes) 0) (ltb (front_of bytes) 2) ≡ is_record e bytes
+    line_record : (e : file.Edition) → used_bytes e.forms bytes ≡ line_bytes bytes → both (eqb (tail_of bytes) 0) (ltb (front_of bytes) 2) ≡ is_record e bytes
     unfolding line_bytes low_first
     line_record e u = split (ltb (get_or bytes 1 0) 2)
         (λ t.
@@ -152,103 +165,52 @@ module _ (bytes : List ℕ) where
         ∙ front_record e 1 (omega arith) (u ∙ pick_true _ _ t))
         (λ t.
         let b : 2 ≤ get_or bytes 1 0 = ltb-false (get_or bytes 1 0) 2 t in
-        ap (both (eqb (tail_of bytes) 0)) (le-ltb (front_of bytes) 2 (omega arith) ∙ sym (le-ltb (front_of bytes) 0 (omega arith))) ∙ no_record_lem e (u ∙ pick-false _ _ t))
+        ap (both (eqb (tail_of bytes) 0)) (le-ltb (front_of bytes) 2 (omega arith) ∙ sym (le-ltb (front_of bytes) 0 (omega arith))) ∙ none_below e (u ∙ pick-false _ _ t))
 
     -- ---- by kind and edition
 
-    module _ (edition : ℕ) where
-      abbrev e : Edition
-      e = edition_among later_editions edition
+    -- each kind's limit says whether it is one
+    condition_is : (e : Edition) → kind_of bytes ≡ condition_kind → both (eqb (tail_of bytes) 0) (ltb (front_of bytes) (condition_limit (edition_number e))) ≡ is_record (row_of e) bytes
+    unfolding edition_among used_bytes condition_limit pick either
+    condition_is First k = front_record (row_of First) 2 (omega arith) (rw k)
+    condition_is Second k = front_record (row_of Second) 2 (omega arith) (rw k)
+    condition_is Third k = front_record (row_of Third) 3 (omega arith) (rw k)
+    condition_is Fourth k = front_record (row_of Fourth) 3 (omega arith) (rw k)
 
-      -- how many bytes a kind uses that not every edition has alike
-      condition-used : kind_of bytes ≡ condition_kind → used_bytes e.forms bytes ≡ pick (either (eqb edition 3) (eqb edition 4)) 4 3
-      unfolding edition_among used_bytes pick either
-      condition-used k = split (eqb edition 2) (λ a. rw (eqb-true edition 2 a, k))
-          (λ a. split (eqb edition 3) (λ b. rw (eqb-true edition 3 b, k))
-          (λ b. split (eqb edition 4) (λ c. rw (eqb-true edition 4 c, k)) (λ c. rw (a, b, c, k))))
+    module_is : (e : Edition) → kind_of bytes ≡ module_kind → both (eqb (tail_of bytes) 0) (ltb (front_of bytes) (power_limit (edition_number e) 1)) ≡ is_record (row_of e) bytes
+    unfolding edition_among used_bytes power_limit pick
+    module_is First k = none_below (row_of First) (rw k)
+    module_is Second k = none_below (row_of Second) (rw k)
+    module_is Third k = none_below (row_of Third) (rw k)
+    module_is Fourth k = front_record (row_of Fourth) 0 (omega arith) (rw k)
 
-      module_used : kind_of bytes ≡ module_kind → used_bytes e.forms bytes ≡ pick (eqb edition 4) 1 0
+    line_is : (e : Edition) → kind_of bytes ≡ line_kind → both (eqb (tail_of bytes) 0) (ltb (front_of bytes) (power_limit (edition_number e) 2)) ≡ is_record (row_of e) bytes
+    unfolding edition_among used_bytes power_limit pick
+    line_is First k = none_below (row_of First) (rw k)
+    line_is Second k = none_below (row_of Second) (rw k)
+    line_is Third k = none_below (row_of Third) (rw k)
+    line_is Fourth k = line_record (row_of Fourth) (rw k)
+
+    -- a number that is no kind's
+    module _ (h : 0 < kind_of bytes → line_kind < kind_of bytes) where
+      none_used : (e : Edition) → used_bytes (row_of e).forms bytes ≡ 0
       unfolding edition_among used_bytes pick
-      module_used k = split (eqb edition 2) (λ a. rw (eqb-true edition 2 a, k))
-          (λ a. split (eqb edition 3) (λ b. rw (eqb-true edition 3 b, k))
-          (λ b. split (eqb edition 4) (λ c. rw (eqb-true edition 4 c, k)) (λ c. rw (a, b, c, k))))
+      none_used First = simp (no_kind _ h)
+      none_used Second = simp (no_kind _ h)
+      none_used Third = simp (no_kind _ h)
+      none_used Fourth = simp (no_kind _ h)
 
-      line-used : kind_of bytes ≡ line_kind → used_bytes e.forms bytes ≡ pick (eqb edition 4) (line_bytes bytes) 0
-      unfolding edition_among used_bytes pick
-      line-used k = split (eqb edition 2) (λ a. rw (eqb-true edition 2 a, k))
-          (λ a. split (eqb edition 3) (λ b. rw (eqb-true edition 3 b, k))
-          (λ b. split (eqb edition 4) (λ c. rw (eqb-true edition 4 c, k)) (λ c. rw (a, b, c, k))))
+      pub none_is : (e : Edition) → is_record (row_of e) bytes ≡ false
+      none_is e = no_record_lem (row_of e) (none_used e)
 
-      -- each kind's limit says whether it is one
-      pub condition_is : kind_of bytes ≡ condition_kind → both (eqb (tail_of bytes) 0) (ltb (front_of bytes) (condition_limit edition)) ≡ is_record e bytes
-      unfolding condition_limit
-      condition_is k = split (either (eqb edition 3) (eqb edition 4))
-          (λ t. rw (pick_true {A = ℕ} 16777216 65536 t) (front_record e 3 (omega arith) (condition-used k ∙ pick_true _ _ t)))
-          (λ t. rw (pick-false {A = ℕ} 16777216 65536 t) (front_record e 2 (omega arith) (condition-used k ∙ pick-false _ _ t)))
-
-      pub module_is : kind_of bytes ≡ module_kind → both (eqb (tail_of bytes) 0) (ltb (front_of bytes) (power_limit edition 1)) ≡ is_record e bytes
-      unfolding power_limit
-      module_is k = split (eqb edition 4)
-          (λ t. rw (pick_true {A = ℕ} 1 0 t) (front_record e 0 (omega arith) (module_used k ∙ pick_true _ _ t)))
-          (λ t. rw (pick-false {A = ℕ} 1 0 t) (no_record_lem e (module_used k ∙ pick-false _ _ t)))
-
-      pub line_is : kind_of bytes ≡ line_kind → both (eqb (tail_of bytes) 0) (ltb (front_of bytes) (power_limit edition 2)) ≡ is_record e bytes
-      unfolding power_limit
-      line_is k = split (eqb edition 4)
-          (λ t. rw (pick_true {A = ℕ} 2 0 t) (line_record e (line-used k ∙ pick_true _ _ t)))
-          (λ t. rw (pick-false {A = ℕ} 2 0 t) (no_record_lem e (line-used k ∙ pick-false _ _ t)))
-
-      -- a kind that no edition lists
-      module _ (n₁ : kind_of bytes ≢ write_kind) (n₂ : kind_of bytes ≢ read_kind) (n₃ : kind_of bytes ≢ work_kind) (n₄ : kind_of bytes ≢ hardware_kind)
-          (n₅ : kind_of bytes ≢ condition_kind) (n₆ : kind_of bytes ≢ sample_kind) (n₇ : kind_of bytes ≢ module_kind) (n₈ : kind_of bytes ≢ line_kind) where
-        none-used : used_bytes e.forms bytes ≡ 0
-        unfolding edition_among used_bytes pick
-        none-used = split (eqb edition 2) (λ a. rw (a, pick, ne_eqb _ _ n₁, ne_eqb _ _ n₂, ne_eqb _ _ n₃, ne_eqb _ _ n₄, ne_eqb _ _ n₅, ne_eqb _ _ n₆))
-            (λ a. split (eqb edition 3) (λ b. rw (a, b, pick, ne_eqb _ _ n₁, ne_eqb _ _ n₂, ne_eqb _ _ n₃, ne_eqb _ _ n₄, ne_eqb _ _ n₅, ne_eqb _ _ n₆))
-            (λ b. split (eqb edition 4) (λ c. rw (a, b, c, pick, ne_eqb _ _ n₁, ne_eqb _ _ n₂, ne_eqb _ _ n₃, ne_eqb _ _ n₄, ne_eqb _ _ n₅, ne_eqb _ _ n₆, ne_eqb _ _ n₇, ne_eqb _ _ n₈))
-            (λ c. rw (a, b, c, pick, ne_eqb _ _ n₁, ne_eqb _ _ n₂, ne_eqb _ _ n₃, ne_eqb _ _ n₄, ne_eqb _ _ n₅, ne_eqb _ _ n₆))))
-
-        pub none_is : both (eqb (tail_of bytes) 0) (ltb (front_of bytes) 0) ≡ is_record e bytes
-        none_is = no_record_lem e none-used
-
-      pub read_is : kind_of bytes ≡ read_kind → both (eqb (tail_of bytes) 0) (ltb (front_of bytes) 65536) ≡ is_record e bytes
-      unfolding used_bytes pick
-      read_is k = front_record e 2 (omega arith) (rw ((six_forms edition).forms, k))
-
-      pub work_is : kind_of bytes ≡ work_kind → both (eqb (tail_of bytes) 0) (ltb (front_of bytes) 256) ≡ is_record e bytes
-      unfolding used_bytes pick
-      work_is k = front_record e 1 (omega arith) (rw ((six_forms edition).forms, k))
-
-      pub hardware_is : kind_of bytes ≡ hardware_kind → both (eqb (tail_of bytes) 0) (ltb (front_of bytes) 256) ≡ is_record e bytes
-      unfolding used_bytes pick
-      hardware_is k = front_record e 1 (omega arith) (rw ((six_forms edition).forms, k))
-
-      pub sample_is : kind_of bytes ≡ sample_kind → both (eqb (tail_of bytes) 0) (ltb (front_of bytes) 16777216) ≡ is_record e bytes
-      unfolding used_bytes pick
-      sample_is k = front_record e 3 (omega arith) (rw ((six_forms edition).forms, k))
-
-      -- every kind but a write
-      pub front_is : kind_of bytes ≢ write_kind → both (eqb (tail_of bytes) 0) (ltb (front_of bytes) (front_limit edition (kind_of bytes))) ≡ is_record e bytes
-      unfolding front_limit pick
-      front_is n₁ = elim (ℕ_discrete (kind_of bytes) read_kind) [
-        | yes k ↦ rw k (read_is k)
-        | no n₂ ↦ elim (ℕ_discrete (kind_of bytes) work_kind) [
-          | yes k ↦ rw k (work_is k)
-          | no n₃ ↦ elim (ℕ_discrete (kind_of bytes) hardware_kind) [
-            | yes k ↦ rw k (hardware_is k)
-            | no n₄ ↦ elim (ℕ_discrete (kind_of bytes) condition_kind) [
-              | yes k ↦ rw k (condition_is k)
-              | no n₅ ↦ elim (ℕ_discrete (kind_of bytes) sample_kind) [
-                | yes k ↦ rw k (sample_is k)
-                | no n₆ ↦ elim (ℕ_discrete (kind_of bytes) module_kind) [
-                  | yes k ↦ rw k (module_is k)
-                  | no n₇ ↦ elim (ℕ_discrete (kind_of bytes) line_kind) [
-                    | yes k ↦ rw k (line_is k)
-                    | no n₈ ↦ rw (ne_eqb _ _ n₂, ne_eqb _ _ n₃, ne_eqb _ _ n₄, ne_eqb _ _ n₅, ne_eqb _ _ n₆, ne_eqb _ _ n₇, ne_eqb _ _ n₈) (none_is n₁ n₂ n₃ n₄ n₅ n₆ n₇ n₈)
-                  ]
-                ]
-              ]
-            ]
-          ]
-        ]
-      ]
+    -- every kind but a write
+    pub front_is : (e : Edition) (k : Kind) → number_of k ≡ kind_of bytes → k ≢ Write → both (eqb (tail_of bytes) 0) (ltb (front_of bytes) (front_limit (edition_number e) k)) ≡ is_record (row_of e) bytes
+    unfolding used_bytes pick
+    front_is e Write k n = absurd (n refl)
+    front_is e Read k n = front_record (row_of e) 2 (omega arith) (rw ((six_forms (edition_number e)).forms, ← k))
+    front_is e Work k n = front_record (row_of e) 1 (omega arith) (rw ((six_forms (edition_number e)).forms, ← k))
+    front_is e Hardware k n = front_record (row_of e) 1 (omega arith) (rw ((six_forms (edition_number e)).forms, ← k))
+    front_is e Condition k n = condition_is e (sym k)
+    front_is e Sample k n = front_record (row_of e) 3 (omega arith) (rw ((six_forms (edition_number e)).forms, ← k))
+    front_is e Module k n = module_is e (sym k)
+    front_is e Line k n = line_is e (sym k)

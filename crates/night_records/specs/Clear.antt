@@ -3,7 +3,9 @@ use Rattle.std.specs.Prelude.{ℕ, zero, suc, ◌+◌, ◌*◌, Bool, eqb, leb, 
 use Rattle.bits.specs.Choice.{pick, either, implies}
 use Rattle.bits.specs.Loop.{all_below}
 use Rattle.model.specs.Numbers.{Byte, Bytes, Count}
-use Rattle.model.specs.File.{record_length, read_kind, work_kind, hardware_kind, condition_kind, sample_kind, module_kind, line_kind}
+use Rattle.model.specs.File.{record_length}
+use Rattle.night_records.specs.declared.Kind.{Kind}
+use Rattle.night_records.specs.declared.Kind.TheVariants.{Write, Read, Work, Hardware, Condition, Sample, Module, Line}
 
 -- byte j is 0 if it is not among the first bytes, which are used
 abbrev pub is_clear : Count → Bytes → Count → Bool
@@ -35,12 +37,13 @@ condition_limit edition = pick (either (eqb edition 3) (eqb edition 4)) 16777216
 unfoldable pub power_limit : Byte → ℕ → ℕ
 power_limit edition limit = pick (eqb edition 4) limit 0
 
-unfoldable pub front_limit : Byte → Byte → ℕ
-front_limit edition kind =
-    pick (eqb kind read_kind) 65536
-    (pick (eqb kind work_kind) 256
-    (pick (eqb kind hardware_kind) 256
-    (pick (eqb kind condition_kind) (condition_limit edition)
-    (pick (eqb kind sample_kind) 16777216
-    (pick (eqb kind module_kind) (power_limit edition 1)
-    (pick (eqb kind line_kind) (power_limit edition 2) 0))))))
+-- nor below that of a write, which goes by its tail
+abbrev pub front_limit : Byte → Kind → ℕ
+front_limit edition Write = 0
+front_limit edition Read = 65536
+front_limit edition Work = 256
+front_limit edition Hardware = 256
+front_limit edition Condition = condition_limit edition
+front_limit edition Sample = 16777216
+front_limit edition Module = power_limit edition 1
+front_limit edition Line = power_limit edition 2

@@ -1,69 +1,96 @@
 // Records of a night file: whether twelve bytes are one, in an edition.
 #![tactic(auto)]
 
-ghost use Rattle.std.specs.Prelude.{◌≡◌, ◌+◌, ◌*◌, ◌^◌, ◌≤◌, ◌<◌, length, ltb};
+ghost use Rattle.std.specs.Prelude.{◌≡◌, ◌*◌, ◌^◌, ◌≤◌, ◌<◌, ltb};
 ghost use Rattle.bits.specs.Choice.{pick};
-ghost use Rattle.model.specs.File.{later_editions, edition_among, written_bytes, is_record, record_length};
+ghost use Rattle.model.specs.File.{written_bytes, is_record};
 ghost use Rattle.night_records.specs.Clear.{tail_of, is_clear_from, front_of, condition_limit, power_limit, front_limit};
+ghost use Rattle.night_records.specs.Edition.{edition_number, row_of, IsEditionOf};
+ghost use Rattle.night_records.specs.Kind.{Names};
 
 pub const RECORD_LENGTH: usize = 12;
 
-// The kinds of records, and the data of a write.
-pub const WRITE: u8 = 1;
+pub type Record = [u8; RECORD_LENGTH];
 
-pub const READ: u8 = 2;
+// The kinds of records.
+#[derive(Clone, Copy)]
+pub enum Kind {
+    Write,
+    Read,
+    Work,
+    Hardware,
+    Condition,
+    Sample,
+    Module,
+    Line,
+}
 
-pub const WORK: u8 = 3;
+// A number that is no kind's.
+#[derive(Clone, Copy)]
+pub struct UnknownKind;
 
-pub const HARDWARE: u8 = 4;
+impl TryFrom<u8> for Kind {
+    type Error = UnknownKind;
 
-pub const CONDITION: u8 = 5;
+    ghost try_from_gives = { Names };
 
-const SAMPLE: u8 = 6;
+    fn try_from(number: u8) -> Result<Kind, UnknownKind> {
+        match number {
+            1 => Ok(Kind::Write),
+            2 => Ok(Kind::Read),
+            3 => Ok(Kind::Work),
+            4 => Ok(Kind::Hardware),
+            5 => Ok(Kind::Condition),
+            6 => Ok(Kind::Sample),
+            7 => Ok(Kind::Module),
+            8 => Ok(Kind::Line),
+            _ => Err(UnknownKind),
+        }
+    }
+}
 
-pub const MODULE: u8 = 7;
+// The editions of the file.
+#[derive(Clone, Copy)]
+pub enum Edition {
+    First,
+    Second,
+    Third,
+    Fourth,
+}
 
-pub const LINE: u8 = 8;
+// The edition of a number; the first where no later one has it.
+impl From<u8> for Edition {
+    ghost from_gives = { IsEditionOf };
 
+    #[tactic(auto, unfolding(model::specs::File::edition_among, bits::specs::Choice::pick))]
+    fn from(number: u8) -> Edition {
+        match number {
+            2 => Edition::Second,
+            3 => Edition::Third,
+            4 => Edition::Fourth,
+            _ => Edition::First,
+        }
+    }
+}
+
+// The data of a write.
 const DATA_LIMIT: u8 = 8;
-
-// The editions whose conditions last, and the one that has events of the module's power.
-pub const THIRD_EDITION: u8 = 3;
-
-pub const FOURTH_EDITION: u8 = 4;
 
 // How many bytes of a record are data, of the count that a write names.
 fn data_bytes(count: u8) -> usize
     ensures { (result ≡ pick (ltb 8 count) 8 count) × (result ≤ 8) }
 {
-    if DATA_LIMIT < count {
-        return 8;
-    }
-    count as usize
-}
-
-// Two bytes, and four, as one number, the first of them lowest.
-fn pair(low: u8, high: u8) -> u64
-    ensures { (result ≡ low + 256 * high) × (result < 65536) }
-{
-    (low as u64) + 256 * (high as u64)
-}
-
-fn quad(low: u64, high: u64) -> u64
-    requires { (low < 65536) × (high < 65536) }
-    ensures { (result ≡ low + 65536 * high) × (result < 4294967296) }
-{
-    low + 65536 * high
+    count.min(DATA_LIMIT) as usize
 }
 
 // The last eight bytes of a record as one number: the compiler makes one load of it.
-fn tail_of(bytes: &[u8]) -> u64
-    requires { record_length ≤ length bytes.now }
+#[tactic(auto, unfolding(crate::specs::Clear::low_first))]
+fn tail_of(bytes: &Record) -> u64
     ensures { result ≡ tail_of bytes.now }
 {
-    let low = quad(pair(bytes[4], bytes[5]), pair(bytes[6], bytes[7]));
-    let high = quad(pair(bytes[8], bytes[9]), pair(bytes[10], bytes[11]));
-    low + 4294967296 * high
+    u64::from_le_bytes([
+        bytes[4], bytes[5], bytes[6], bytes[7], bytes[8], bytes[9], bytes[10], bytes[11],
+    ])
 }
 
 // What a number of so many bytes stays below.
@@ -75,16 +102,16 @@ fn byte_limit(n: usize) -> u64
 }
 
 // Whether a record's bytes from the fourth on are zeros.
-fn is_clear_from_3(bytes: &[u8], tail: u64) -> bool
-    requires { (record_length ≤ length bytes.now) × (tail ≡ tail_of bytes.now) }
+fn is_clear_from_3(bytes: &Record, tail: u64) -> bool
+    requires { tail ≡ tail_of bytes.now }
     ensures { result ≡ is_clear_from 3 bytes.now }
 {
     (bytes[3] == 0) & (tail == 0)
 }
 
 // Whether a write's bytes behind its data are zeros.
-fn is_write(bytes: &[u8], tail: u64) -> bool
-    requires { (record_length ≤ length bytes.now) × (tail ≡ tail_of bytes.now) }
+fn is_write(bytes: &Record, tail: u64) -> bool
+    requires { tail ≡ tail_of bytes.now }
     ensures { result ≡ is_clear_from (written_bytes bytes.now) bytes.now }
 {
     let n = data_bytes(bytes[2]);
@@ -95,59 +122,61 @@ fn is_write(bytes: &[u8], tail: u64) -> bool
 }
 
 // The three bytes behind a record's kind as one number, the first of them lowest.
-fn front_of(bytes: &[u8]) -> u64
-    requires { record_length ≤ length bytes.now }
+#[tactic(auto, unfolding(crate::specs::Clear::low_first))]
+fn front_of(bytes: &Record) -> u32
     ensures { result ≡ front_of bytes.now }
 {
-    pair(bytes[1], bytes[2]) + 65536 * (bytes[3] as u64)
+    u32::from_le_bytes([bytes[1], bytes[2], bytes[3], 0])
 }
 
 // What that number of a condition stays below, in an edition: from the third on it has an off mask.
-fn condition_limit(edition: u8) -> u64
-    ensures { result ≡ condition_limit edition }
+#[tactic(auto, unfolding(crate::specs::Clear::condition_limit, bits::specs::Choice::pick, bits::specs::Choice::either))]
+fn condition_limit(edition: Edition) -> u32
+    ensures { result ≡ condition_limit (edition_number edition) }
 {
-    if (edition == THIRD_EDITION) | (edition == FOURTH_EDITION) {
-        return 16777216;
+    match edition {
+        Edition::First | Edition::Second => 65536,
+        Edition::Third | Edition::Fourth => 16777216,
     }
-    65536
 }
 
 // .. of an event of the module's power, which is listed from the fourth edition on.
-fn power_limit(edition: u8, limit: u64) -> u64
-    ensures { result ≡ power_limit edition limit }
+#[tactic(auto, unfolding(crate::specs::Clear::power_limit, bits::specs::Choice::pick))]
+fn power_limit(edition: Edition, limit: u32) -> u32
+    ensures { result ≡ power_limit (edition_number edition) limit }
 {
-    if edition == FOURTH_EDITION {
-        return limit;
+    match edition {
+        Edition::First | Edition::Second | Edition::Third => 0,
+        Edition::Fourth => limit,
     }
-    0
 }
 
-// .. of any kind but a write: nothing stays below the limit of a kind that is not listed.
-fn front_limit(kind: u8, edition: u8) -> u64
-    ensures { result ≡ front_limit edition kind }
+// .. of any kind: nothing stays below the limit of a write, which goes by its tail.
+fn front_limit(kind: Kind, edition: Edition) -> u32
+    ensures { result ≡ front_limit (edition_number edition) kind }
 {
     match kind {
-        READ => 65536,
-        WORK => 256,
-        HARDWARE => 256,
-        CONDITION => condition_limit(edition),
-        SAMPLE => 16777216,
-        MODULE => power_limit(edition, 1),
-        LINE => power_limit(edition, 2),
-        _ => 0,
+        Kind::Write => 0,
+        Kind::Read => 65536,
+        Kind::Work => 256,
+        Kind::Hardware => 256,
+        Kind::Condition => condition_limit(edition),
+        Kind::Sample => 16777216,
+        Kind::Module => power_limit(edition, 1),
+        Kind::Line => power_limit(edition, 2),
     }
 }
 
 // Whether a record is of a kind that an edition lists, with zeros in the bytes that it does not use, and its line is to be on or off.
-pub fn is_record(bytes: &[u8], edition: u8) -> bool
-    requires { record_length ≤ length bytes.now }
-    ensures { result ≡ is_record (edition_among later_editions edition) bytes.now }
+pub fn is_record(bytes: &Record, edition: Edition) -> bool
+    ensures { result ≡ is_record (row_of edition) bytes.now }
 {
+    let Ok(kind) = Kind::try_from(bytes[0]) else {
+        return false;
+    };
     let tail = tail_of(bytes);
-    let kind = bytes[0];
-    if kind == WRITE {
-        return is_write(bytes, tail);
+    match kind {
+        Kind::Write => is_write(bytes, tail),
+        _ => (tail == 0) & (front_of(bytes) < front_limit(kind, edition)),
     }
-    let limit = front_limit(kind, edition);
-    (tail == 0) & (front_of(bytes) < limit)
 }

@@ -4,43 +4,39 @@
 ghost use Rattle.std.specs.Prelude.{◌≡◌, ◌*◌};
 ghost use Rattle.model.specs.File.{file_check};
 ghost use Rattle.model.specs.Night.{printed_text};
-ghost use Rattle.model.specs.declared.file.FileCheck.TheVariants as found;
 ghost use Rattle.night_text.specs.Buffer.{line_room};
 ghost use Rattle.contracts.specs.Texts.{Gives, GivesCount};
 ghost use Rattle.night_replay.specs.Replay.{room_for};
 
 use access_limits::READ_LIMIT;
-use contracts::Replayed;
-use map::IMAGE_LENGTH;
-use model::file::FileCheck;
+use model::image::IMAGE_LENGTH;
 
 // The room that a record's line asks for.
 const LINE_ROOM: usize = 391;
 
 // The text of a good file.
-fn print_good(file: &[u8], count: u32, out: &mut [u8]) -> Replayed
-    requires { file_check file.now ≡ found.Good count }
+fn print_good(file: &[u8], count: u32, out: &mut [u8]) -> Option<usize>
+    requires { file_check file.now ≡ Ok count }
     ensures { Gives (line_room 4 * count) (printed_text file.now) out.old out.new result }
 {
     if out.len() < LINE_ROOM * (count as usize) {
-        return Replayed::ShortBuffer;
+        return None;
     }
     let mut image = [0u8; IMAGE_LENGTH];
     let mut buffer = [0u8; READ_LIMIT];
-    let offset = night_file::records_offset(file);
-    night_runs::start_image(file, offset, &mut image);
-    let n = night_play::play(&mut image, &mut buffer, file, offset, count, out);
-    Replayed::Printed(n)
+    let night = night_file::parts(file);
+    night_runs::start_image(night.image, &mut image);
+    let n = night_play::play(&mut image, &mut buffer, night, out);
+    Some(n)
 }
 
 // All that is printed for a file, whatever bytes it holds.
-pub fn replay(file: &[u8], out: &mut [u8]) -> Replayed
+pub fn replay(file: &[u8], out: &mut [u8]) -> Option<usize>
     ensures { Gives (room_for (file_check file.now)) (printed_text file.now) out.old out.new result }
 {
-    let found = night_file::check(file);
-    match found {
-        FileCheck::Refused(answer) => night_buffers::print_bad(answer, out),
-        FileCheck::Good(count) => print_good(file, count, out),
+    match night_file::check(file) {
+        Err(answer) => night_buffers::print_bad(answer, out),
+        Ok(count) => print_good(file, count, out),
     }
 }
 
@@ -49,6 +45,5 @@ pub fn replay(file: &[u8], out: &mut [u8]) -> Replayed
 pub extern "C" fn night_replay(file: &[u8], out: &mut [u8]) -> usize
     ensures { GivesCount (room_for (file_check file.now)) (printed_text file.now) out.old out.new result }
 {
-    let answer = replay(file, out);
-    night_buffers::count_of(answer)
+    night_buffers::count_of(replay(file, out))
 }

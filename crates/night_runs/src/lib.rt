@@ -1,74 +1,67 @@
 // A checked night file: its image, and its records in runs, each as far as the output has room for a longest line.
 #![tactic(auto)]
 
-ghost use Rattle.std.specs.Prelude.{◌≡◌, ◌+◌, ◌*◌, ◌≤◌, ◌<◌, length};
+ghost use Rattle.std.specs.Prelude.{◌≡◌, ◌≤◌, ◌<◌, length, ◌^◌};
 ghost use Rattle.model.specs.Map.{image_length};
 ghost use Rattle.model.specs.State.{state_with};
 ghost use Rattle.model.specs.Start.{started_state};
-ghost use Rattle.model.specs.File.{edition_of, image_in, records_offset, record_length};
+ghost use Rattle.model.specs.File.{laid_out};
 ghost use Rattle.night_text.specs.Buffer.{longest_line};
+ghost use Rattle.night_records.specs.Edition.{row_of};
 ghost use Rattle.night_runs.specs.Running.{Ran};
 
 use access_limits::READ_LIMIT;
+use model::image::Image;
 use model::lane::Working;
-use night_file::IMAGE_OFFSET;
-use night_lines::Reached;
-use night_records::RECORD_LENGTH;
+use night_file::Night;
+use night_lines::{LONGEST_LINE, Reached};
 
-// The longest line: an index of ten digits, an answer, 128 bytes.
-const LONGEST_LINE: usize = 397;
-
-// A file's image, as a module starts with it.
-pub fn start_image(file: &[u8], offset: usize, image: &mut [u8])
-    requires { (offset ≡ records_offset (edition_of file.now)) × (offset ≤ length file.now) × (length image.old ≡ image_length) }
-    ensures { image.new ≡ (started_state (image_in file.now)).image }
+// The image that a file carries, as a module starts with it.
+pub fn start_image(carried: &[u8], image: &mut Image)
+    requires { length carried.now ≤ image_length }
+    ensures { image.new ≡ (started_state (laid_out carried.now)).image }
 {
-    night_image::lay_out(&file[IMAGE_OFFSET..offset], image);
+    night_image::lay_out(carried, image);
     start_image::reset(image)
 }
 
-// How far a night has come: the next record's index, the bytes that the run printed, and what the module keeps beside its image.
+// How far a night has come: the next record's index, and what the run reached.
 #[derive(Clone, Copy)]
 pub struct Come {
-    pub next: u32,
-    pub at: usize,
-    pub working: Working,
-}
-
-fn come_to(next: u32, reached: Reached) -> Come
-    ensures { result ≡ record { next = next; at = reached.at; working = reached.working } }
-{
-    let working = reached.working;
-    Come {
-        next,
-        at: reached.at,
-        working,
-    }
+    pub next: usize,
+    pub reached: Reached,
 }
 
 // The records from one on, while the output has room for a longest line: one at least.
 pub fn play_run(
-    image: &mut [u8],
+    image: &mut Image,
     working: Working,
-    file: &[u8],
-    offset: usize,
-    first: u32,
-    count: u32,
+    night: Night<'_>,
+    first: usize,
     out: &mut [u8],
 ) -> Come
-    requires { (length image.old ≡ image_length) × (offset ≡ records_offset (edition_of file.now)) × (offset + record_length * count ≤ length file.now) × (first < count) × (longest_line ≤ length out.old) }
-    ensures { (first < result.next) × (result.next ≤ count) × (result.at ≤ length out.new) × Ran (state_with image.old working) file.now first out.old out.new image.new result }
+    requires { (first < length night.records.now) × (length night.records.now < 2 ^ 32) × (longest_line ≤ length out.old) }
+    ensures { (first < result.next) × (result.next ≤ length night.entry.records.now) × (result.reached.at ≤ length out.new) × Ran (state_with image.old working) (row_of night.entry.edition) night.entry.records.now first out.old out.new image.new result }
 {
     let mut buffer = [0u8; READ_LIMIT];
-    let edition = night_file::edition_in(file);
     let mut reached = Reached { at: 0, working };
-    for k in first..count {
+    for k in first..night.records.len() {
         if out.len() - reached.at < LONGEST_LINE {
-            return come_to(k, reached);
+            return Come { next: k, reached };
         }
-        let at = offset + RECORD_LENGTH * (k as usize);
-        let record = &file[at..at + RECORD_LENGTH];
-        reached = night_lines::turn(image, reached, &mut buffer, record, edition, k, out);
+        let record = &night.records[k];
+        reached = night_lines::turn(
+            image,
+            reached,
+            &mut buffer,
+            record,
+            night.edition,
+            k as u32,
+            out,
+        );
     }
-    come_to(count, reached)
+    Come {
+        next: night.records.len(),
+        reached,
+    }
 }

@@ -1,14 +1,14 @@
 -- Laws of decimals: how many digits there are, and their parts of two and of four digits. Assumes nothing.
 use mathlib.Core.Path.{◌≡◌, refl, sym, ◌∙◌}
 use mathlib.Core.List.{List, [], ◌∷◌, ◌++◌}
-use Prim.Native.Nat.{ℕ, zero, suc, ◌+◌, ◌*◌, ◌/◌, ◌%◌, ◌^◌, ◌≤◌, ◌<◌}
+use Prim.Native.Nat.{ℕ, zero, suc, ◌+◌, ◌/◌, ◌%◌, ◌^◌, ◌≤◌, ◌<◌}
 use native.Mathlib.Nat.{mod-eq_of_lt, pow-suc}
 use native.Mathlib.Numerals.{add-one}
 use native.Mathlib.Decide.{dec_lt}
 use native.Mathlib.Omega.{arith}
 use lib.Dec.{ltb}
 use lib.ListN.{length, length-append}
-use borrow.Author.Tests.{ltb-true, lt-ltb, le-ltb}
+use borrow.Author.Tests.{lt-ltb, le-ltb}
 use Rattle.bits.specs.Choice.{pick}
 use Rattle.bits.proofs.Tests.{split}
 use Rattle.model.specs.Text.{digit_text, decimal_up_to, decimal}
@@ -151,3 +151,6 @@ length_digits (suc n) x = length-append (digits_of n (x / 10)) _ ∙ rw (length_
 pub length_parts : (x : ℕ) → 10000 ≤ x → x < 10000000000 → length (decimal x) ≡ length (decimal (x / 10000)) + 4
 length_parts x l h =
     rw (decimal_parts x l h, length-append (decimal (x / 10000)) (digits_of 4 (x % 10000)), length_digits 4 (x % 10000))
+
+-- what a decimal of up to four digits is, and how long
+pub ruleset decimals = (decimal-one, decimal_two, decimal-three, decimal_four, length_digits)

@@ -1,13 +1,16 @@
 -- Laws of bytes laid into a buffer: lengths, one text after another, and stores. Assumes nothing.
 use mathlib.Core.Path.{◌≡◌, sym, ap, ◌∙◌}
-use mathlib.Core.List.{List, [], ◌∷◌, ◌++◌, append_assoc, append-nil}
+use mathlib.Core.List.{List, [], ◌++◌, append_assoc, append-nil}
 use Prim.Native.Nat.{ℕ, suc, ◌+◌, ◌-◌, ◌≤◌, ◌<◌}
 use native.Mathlib.Nat.{add-zero, add_assoc}
 use native.Mathlib.Numerals.{add-one}
 use native.Mathlib.Omega.{arith}
+use borrow.Rule.Slice.PartMut.{put_mid}
 use lib.ListN.{length, get_or, set, take, drop, length-append, take-append-drop, length-drop}
-use lib.Seq.{lt-length-set, length-take-le, take-suc, drop-cons, append_snoc, set_at, get_or-set_same, take-set-le, drop-set-lt, take_at, drop-drop, drop_at, sets, sets-eq}
+use lib.Seq.{length-take-le, take-suc, drop-cons, append_snoc, set_at, take_at, drop-drop, drop_at}
 use Rattle.night_text.specs.Buffer.{laid_at, Puts}
+use Rattle.night_text.specs.declared.Line.{Line}
+use Rattle.night_text.specs.Lines.{Adds}
 
 -- nothing laid, nothing changed
 pub laid_none : (at : ℕ) (buffer : List ℕ) → laid_at at [] buffer ≡ buffer
@@ -40,28 +43,11 @@ module _ (at : ℕ) (bytes buffer : List ℕ) (within : at ≤ length buffer) wh
   laid_append more =
       rw (take_laid, drop_laid (length more), length-append bytes more, append_assoc (take at buffer) bytes more, add_assoc at (length bytes) (length more))
 
--- a store at the end of what is yet to be laid
-pub laid_snoc : (at : ℕ) (bytes : List ℕ) (b : ℕ) (buffer : List ℕ) → at + length bytes < length buffer
-    → laid_at at (bytes ++ (b ∷ [])) buffer ≡ laid_at at bytes (set buffer (at + length bytes) b)
+-- bytes in the place of as many
+pub laid_copied : (at n k : ℕ) (bytes copied buffer : List ℕ) → copied ≡ bytes → length bytes ≡ n → k ≡ n → put_mid at k buffer copied ≡ laid_at at bytes buffer
 unfolding laid_at
-laid_snoc at bytes b buffer fits =
-    let i = at + length bytes in
-    let e : at + (length bytes + 1) ≡ suc i = omega arith in
-    rw (
-      take-set-le at buffer i b (omega arith),
-      drop-cons (set buffer i b) i 0 (lt-length-set buffer i b fits),
-      get_or-set_same buffer i b 0 fits,
-      drop-set-lt (suc i) buffer i b (omega arith),
-      length-append bytes (b ∷ []),
-      e,
-      ← append_assoc (take at buffer) bytes (b ∷ []),
-    )
-    (append_snoc (take at buffer ++ bytes) b _)
-
--- a run of stores
-pub laid_sets : (at : ℕ) (bytes buffer : List ℕ) → at + length bytes ≤ length buffer → sets buffer at bytes ≡ laid_at at bytes buffer
-unfolding laid_at
-laid_sets at bytes buffer fits = sets-eq bytes buffer at fits
+laid_copied at n k bytes copied buffer e l h =
+    rw (e, h, drop-drop, l) (sym (append_assoc (take at buffer) bytes (drop (at + n) buffer)))
 
 -- two puts, one after the other, are one
 pub puts_then : {at p q : ℕ} {a b x y z : List ℕ} → p ≤ length x → Puts at a x y p → Puts p b y z q → Puts at (a ++ b) x z q
@@ -80,3 +66,17 @@ pub copy_turn : (s d : List ℕ) (i : ℕ) → i < length s → i < length d →
 copy_turn s d i h g =
     rw (add-one i, drop-cons d i 0 g, set_at (take i s) (get_or d i 0) (drop (suc i) d) (get_or s i 0) i (length-take-le i s (omega arith)), take-suc s i 0 h)
     (sym (append_snoc (take i s) (get_or s i 0) (drop (suc i) d)))
+
+-- two texts more, one after the other, are one
+pub adds_then : {a b : List ℕ} {x y z : Line} → x.at ≤ length x.out.now → Adds a x y → Adds b y z → Adds (a ++ b) x z
+adds_then {a} {b} {x} {y} {z} within f g =
+    record {
+      buffer = g.buffer ∙ rw (f.next, f.buffer) (laid_append x.at a x.out.now within b);
+      kept = g.kept ∙ f.kept;
+      next = omega (arith, length-append a b, f.next, g.next);
+      same = g.same ∙ f.same;
+    }
+
+-- .. and what is left of a line at its end is what was put
+pub ends : {text z : List ℕ} {x y : Line} → Adds text x y → (x.out.ghost_name ≡ y.out.ghost_name → z ≡ y.out.now) → Puts x.at text x.out.now z y.at
+ends f last = record { buffer = last (sym f.same) ∙ f.buffer; next = f.next }

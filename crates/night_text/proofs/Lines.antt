@@ -10,8 +10,7 @@ use Rattle.model.specs.Answers.{number}
 use Rattle.model.specs.Text.{ascii, newline, space, digit_text, decimal, hex_bytes, line, bad_line}
 use Rattle.model.specs.declared.answer.Answer.{Answer}
 use Rattle.model.specs.declared.answer.Answer.TheVariants.{Done, WrongLength, FlatMemory, Unsound, BadAccess, ShortBuffer, NothingOnLane, Busy, NoSuchTarget, Malformed, BackToFront}
-use Rattle.night_text.specs.Buffer.{laid_at, line_room}
-use Rattle.night_text.proofs.Laid.{laid_append}
+use Rattle.night_text.specs.Buffer.{line_room}
 use Rattle.night_text.proofs.Decimals.{count_last, count_most, count_up_to}
 
 -- a byte's text
@@ -91,9 +90,5 @@ pub bad_most : (a : ℕ) → a < 100 → length (bad_line a) ≤ 7
 bad_most a h = omega (arith, bad_room_lem a, length_refusal a h)
 
 -- a turn of the loop over the bytes: their text so far, and one byte's after it
-pub hex_turn : (at : ℕ) (bytes before out after : List ℕ) (i : ℕ) → i < length bytes → at + 3 * (i + 1) ≤ length before
-    → out ≡ laid_at at (hex_bytes (take i bytes)) before → after ≡ laid_at (at + 3 * i) (hex_byte (get_or bytes i 0)) out
-    → after ≡ laid_at at (hex_bytes (take (i + 1) bytes)) before
-hex_turn at bytes before out after i h f e a =
-    let n : length (hex_bytes (take i bytes)) ≡ 3 * i = length_hex_taken i bytes (omega arith) in
-    a ∙ rw (e, ← n, laid_append at (hex_bytes (take i bytes)) before (omega arith) (hex_byte (get_or bytes i 0)), ← hex_snoc (take i bytes) (get_or bytes i 0), add-one, take-suc bytes i 0 h)
+pub hex_next : (i : ℕ) (bytes : List ℕ) → i < length bytes → hex_bytes (take (i + 1) bytes) ≡ hex_bytes (take i bytes) ++ hex_byte (get_or bytes i 0)
+hex_next i bytes h = rw (add-one, take-suc bytes i 0 h) (hex_snoc (take i bytes) (get_or bytes i 0))

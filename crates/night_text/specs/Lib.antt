@@ -1,3 +1,4 @@
 -- Text in a lent buffer.
 pub mod Buffer
 pub mod Digits
+pub mod Lines

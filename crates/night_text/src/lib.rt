@@ -1,139 +1,134 @@
-// The text of a line, put into a lent buffer: each put starts at a position and hands back the position after its text.
+// The text of a line, put into a lent buffer: each put starts where the one before it ended.
 // Division by ten is for text alone.
 #![tactic(auto)]
 
 ghost use Rattle.std.specs.Prelude.{◌≡◌, [], ◌∷◌, ◌+◌, ◌*◌, ◌/◌, ◌%◌, ◌≤◌, ◌<◌, length, take};
 ghost use Rattle.model.specs.Text.{ascii, space, digit_text, decimal, hex_bytes, line, bad_line};
-ghost use Rattle.night_text.specs.Buffer.{laid_at, Puts};
+ghost use Rattle.night_text.specs.Buffer.{Puts};
 ghost use Rattle.night_text.specs.Digits.{digits_of};
+ghost use Rattle.night_text.specs.Lines.{Adds};
 
 const SPACE: u8 = 0x20;
 
 const NEWLINE: u8 = 0x0a;
 
-// One byte.
-fn put_byte(out: &mut [u8], at: usize, b: u8) -> usize
-    requires { at < length out.old }
-    ensures { Puts at (b ∷ []) out.old out.new result }
-{
-    out[at] = b;
-    at + 1
+// A lent buffer, and where the next byte of its text goes.
+#[derive(Drop)]
+struct Line<'a> {
+    out: &'a mut [u8],
+    at: usize,
 }
 
-// Two digits: the compiler makes one store of them.
-fn put_two(out: &mut [u8], at: usize, x: u32) -> usize
-    requires { (x < 100) × (at + 2 ≤ length out.old) }
-    ensures { Puts at (digits_of 2 x) out.old out.new result }
-{
-    let text = night_digits::two_digits(x);
-    out[at] = (text % 256) as u8;
-    out[at + 1] = (text / 256) as u8;
-    at + 2
-}
-
-// Three digits.
-fn put_three(out: &mut [u8], at: usize, x: u32) -> usize
-    requires { (x < 1000) × (at + 3 ≤ length out.old) }
-    ensures { Puts at (digits_of 3 x) out.old out.new result }
-{
-    let first = night_digits::digit((x / 100) as u8);
-    let at = put_byte(out, at, first);
-    put_two(out, at, x % 100)
-}
-
-// Four digits, likewise: the number less its tenths, a digit a byte.
-fn put_four(out: &mut [u8], at: usize, x: u32) -> usize
-    requires { (x < 10000) × (at + 4 ≤ length out.old) }
-    ensures { Puts at (digits_of 4 x) out.old out.new result }
-{
-    let n = x as u64;
-    let over = 2559 * (n / 1000) + 655104 * (n / 100) + 167706624 * (n / 10);
-    let text = (0x30303030 + 16777216 * n - over) as u32;
-    out[at] = (text % 256) as u8;
-    out[at + 1] = (text / 256 % 256) as u8;
-    out[at + 2] = (text / 65536 % 256) as u8;
-    out[at + 3] = (text / 16777216) as u8;
-    at + 4
-}
-
-// A number of up to four digits in decimal.
-fn put_few(out: &mut [u8], at: usize, x: u32) -> usize
-    requires { (x < 10000) × (at + length (decimal x) ≤ length out.old) }
-    ensures { Puts at (decimal x) out.old out.new result }
-{
-    if 999 < x {
-        return put_four(out, at, x);
+impl<'a> Line<'a> {
+    // Bytes, in one copy.
+    fn bytes<const N: usize>(&mut self, bytes: [u8; N])
+        requires { self.old.at + N ≤ length self.old.out.now }
+        ensures { Adds bytes.entry self.old self.new }
+    {
+        let at = self.at;
+        self.out[at..at + N].copy_from_slice(&bytes);
+        self.at = at + N;
     }
-    if 99 < x {
-        return put_three(out, at, x);
-    }
-    if 9 < x {
-        return put_two(out, at, x);
-    }
-    let d = night_digits::digit(x as u8);
-    put_byte(out, at, d)
-}
 
-// .. of up to eight.
-fn put_many(out: &mut [u8], at: usize, x: u32) -> usize
-    requires { (x < 100000000) × (at + length (decimal x) ≤ length out.old) }
-    ensures { Puts at (decimal x) out.old out.new result }
-{
-    if x < 10000 {
-        return put_few(out, at, x);
+    // Two digits: the compiler makes one store of them.
+    fn two(&mut self, x: u32)
+        requires { (x < 100) × (self.old.at + 2 ≤ length self.old.out.now) }
+        ensures { Adds (digits_of 2 x) self.old self.new }
+    {
+        self.bytes(night_digits::two_digits(x).to_le_bytes());
     }
-    let at = put_few(out, at, x / 10000);
-    put_four(out, at, x % 10000)
-}
 
-// A record's index in decimal.
-fn put_index(out: &mut [u8], at: usize, x: u32) -> usize
-    requires { at + length (decimal x) ≤ length out.old }
-    ensures { Puts at (decimal x) out.old out.new result }
-{
-    if x < 10000 {
-        return put_few(out, at, x);
+    // Three digits.
+    fn three(&mut self, x: u32)
+        requires { (x < 1000) × (self.old.at + 3 ≤ length self.old.out.now) }
+        ensures { Adds (digits_of 3 x) self.old self.new }
+    {
+        self.bytes([night_digits::digit((x / 100) as u8)]);
+        self.two(x % 100);
     }
-    let at = put_many(out, at, x / 10000);
-    put_four(out, at, x % 10000)
-}
 
-// An answer in decimal. Most are one digit.
-fn put_answer(out: &mut [u8], at: usize, x: u8) -> usize
-    requires { at + length (decimal x) ≤ length out.old }
-    ensures { Puts at (decimal x) out.old out.new result }
-{
-    if x < 10 {
-        let d = night_digits::digit(x);
-        return put_byte(out, at, d);
+    // Four digits, likewise: the number less its tenths, a digit a byte.
+    fn four(&mut self, x: u32)
+        requires { (x < 10000) × (self.old.at + 4 ≤ length self.old.out.now) }
+        ensures { Adds (digits_of 4 x) self.old self.new }
+    {
+        let n = x as u64;
+        let over = 2559 * (n / 1000) + 655104 * (n / 100) + 167706624 * (n / 10);
+        let text = (0x30303030 + 16777216 * n - over) as u32;
+        self.bytes(text.to_le_bytes());
     }
-    put_few(out, at, x as u32)
-}
 
-// A byte as a space and two hex digits.
-fn put_hex_byte(out: &mut [u8], at: usize, b: u8)
-    requires { at + 3 ≤ length out.old }
-    ensures { out.new ≡ laid_at at (space ∷ digit_text (b / 16) ∷ digit_text (b % 16) ∷ []) out.old }
-{
-    let high = night_digits::digit(b / 16);
-    let low = night_digits::digit(b % 16);
-    out[at] = SPACE;
-    out[at + 1] = high;
-    out[at + 2] = low;
-}
-
-// The first bytes of a list in hex.
-fn put_hex(out: &mut [u8], at: usize, bytes: &[u8], count: usize) -> usize
-    requires { (count ≤ length bytes.now) × (at + 3 * count ≤ length out.old) }
-    ensures { Puts at (hex_bytes (take count bytes.now)) out.old out.new result }
-{
-    for i in 0..count {
-        put_hex_byte(out, at + 3 * i, bytes[i]);
+    // A number of up to four digits in decimal.
+    #[tactic(auto, using(crate::proofs::Decimals::decimals))]
+    fn few(&mut self, x: u32)
+        requires { (x < 10000) × (self.old.at + length (decimal x) ≤ length self.old.out.now) }
+        ensures { Adds (decimal x) self.old self.new }
+    {
+        if 999 < x {
+            return self.four(x);
+        }
+        if 99 < x {
+            return self.three(x);
+        }
+        if 9 < x {
+            return self.two(x);
+        }
+        self.bytes([night_digits::digit(x as u8)]);
     }
-    at + 3 * count
+
+    // .. of up to eight.
+    #[tactic(auto, using(crate::proofs::Decimals::length_parts))]
+    fn many(&mut self, x: u32)
+        requires { (x < 100000000) × (self.old.at + length (decimal x) ≤ length self.old.out.now) }
+        ensures { Adds (decimal x) self.old self.new }
+    {
+        if x < 10000 {
+            return self.few(x);
+        }
+        self.few(x / 10000);
+        self.four(x % 10000);
+    }
+
+    // A record's index in decimal.
+    #[tactic(auto, using(crate::proofs::Decimals::length_parts))]
+    fn index(&mut self, x: u32)
+        requires { self.old.at + length (decimal x) ≤ length self.old.out.now }
+        ensures { Adds (decimal x) self.old self.new }
+    {
+        if x < 10000 {
+            return self.few(x);
+        }
+        self.many(x / 10000);
+        self.four(x % 10000);
+    }
+
+    // An answer in decimal. Most are one digit.
+    #[tactic(auto, using(crate::proofs::Decimals::decimals))]
+    fn answer(&mut self, x: u8)
+        requires { self.old.at + length (decimal x) ≤ length self.old.out.now }
+        ensures { Adds (decimal x) self.old self.new }
+    {
+        if x < 10 {
+            return self.bytes([night_digits::digit(x)]);
+        }
+        self.few(x as u32);
+    }
+
+    // Bytes in hex, each as a space and two digits.
+    fn hex(&mut self, bytes: &[u8])
+        requires { self.old.at + 3 * length bytes.now ≤ length self.old.out.now }
+        ensures { Adds (hex_bytes bytes.now) self.old self.new }
+    {
+        for b in bytes {
+            let high = night_digits::digit(*b / 16);
+            let low = night_digits::digit(*b % 16);
+            self.bytes([SPACE, high, low]);
+        }
+    }
 }
 
 // The line of a record: its index, its answer, and the first bytes of what was read.
+#[tactic(auto, using(crate::proofs::Lines::line_room_lem, crate::proofs::Lines::length_hex_taken))]
 pub fn put_line(
     out: &mut [u8],
     at: usize,
@@ -145,31 +140,24 @@ pub fn put_line(
     requires { (count ≤ length bytes.now) × (at + length (line index answer (take count bytes.now)) ≤ length out.old) }
     ensures { Puts at (line index answer (take count bytes.now)) out.old out.new result }
 {
-    let at = put_index(out, at, index);
-    let at = put_byte(out, at, SPACE);
-    let at = put_answer(out, at, answer);
-    let at = put_hex(out, at, bytes, count);
-    put_byte(out, at, NEWLINE)
-}
-
-// The first word of the line of a file that is not replayed.
-fn put_bad_word(out: &mut [u8], at: usize) -> usize
-    requires { at + 4 ≤ length out.old }
-    ensures { Puts at (ascii "bad ") out.old out.new result }
-{
-    out[at] = b'b';
-    out[at + 1] = b'a';
-    out[at + 2] = b'd';
-    out[at + 3] = SPACE;
-    at + 4
+    let mut line = Line { out, at };
+    line.index(index);
+    line.bytes([SPACE]);
+    line.answer(answer);
+    line.hex(&bytes[..count]);
+    line.bytes([NEWLINE]);
+    line.at
 }
 
 // The only line of a file that is not replayed.
+#[tactic(auto, using(crate::proofs::Lines::bad_room_lem), unfolding(model::specs::Text::ascii))]
 pub fn put_bad(out: &mut [u8], at: usize, answer: u8) -> usize
     requires { at + length (bad_line answer) ≤ length out.old }
     ensures { Puts at (bad_line answer) out.old out.new result }
 {
-    let at = put_bad_word(out, at);
-    let at = put_answer(out, at, answer);
-    put_byte(out, at, NEWLINE)
+    let mut line = Line { out, at };
+    line.bytes(*b"bad ");
+    line.answer(answer);
+    line.bytes([NEWLINE]);
+    line.at
 }

@@ -1,14 +1,15 @@
 -- Values laid over the front of a buffer, byte by byte. Assumes nothing.
-use mathlib.Core.Path.{◌≡◌, refl, ap}
-use mathlib.Core.Bool.{true}
-use mathlib.Core.List.{List, [], ◌∷◌}
+use mathlib.Core.Path.{◌≡◌, refl, sym, ap, ◌∙◌}
+use mathlib.Core.List.{List, [], ◌∷◌, ◌++◌, append_assoc, append-nil}
 use Prim.Native.Nat.{ℕ, zero, suc, ◌+◌, ◌≤◌, ◌<◌}
-use native.Mathlib.Nat.{add-zero, add-suc, le_of_suc-le-suc, not-suc-le-zero}
+use native.Mathlib.Nat.{le_of_suc-le-suc, not-suc-le-zero}
 use native.Mathlib.Omega.{arith}
-use lib.ListN.{length, get_or, set}
-use Rattle.bits.specs.Choice.{pick, only_if}
-use Rattle.bits.specs.Loop.{each, tab}
-use Rattle.bits.proofs.Loops.{set_loop}
+use borrow.Rule.Slice.PartMut.{put_mid}
+use lib.ListN.{length, get_or, set, drop}
+use lib.Seq.{take_at, drop_at, drop-drop}
+use Rattle.std.proofs.lemmas.List.{drop_all}
+use Rattle.bits.specs.Loop.{tab}
+use Rattle.bits.proofs.Loops.{tab_ext, length-tab}
 use Rattle.model.specs.Outcome.{laid_over}
 
 pub laid_at_lem : (n : ℕ) (f : ℕ → ℕ) (buffer : List ℕ) (k : ℕ) → n ≤ length buffer → k < n → get_or (laid_over (tab n f) buffer) k 0 ≡ f k
@@ -43,15 +44,35 @@ lay_one n f [] h = absurd (not-suc-le-zero h)
 lay_one zero f (b ∷ bs) h = refl
 lay_one (suc n) f (b ∷ bs) h = ap (λ t. f 0 ∷ t) (lay_one n (λ k. f (suc k)) bs (le_of_suc-le-suc h))
 
--- .. and m values more, one after the other
-pub lay_more : (n m : ℕ) (f g : ℕ → ℕ) (buffer : List ℕ) → n + m ≤ length buffer → ((k : ℕ) → k < m → g k ≡ f (n + k))
-    → each (λ k. true) (λ k s. set s (n + k) (g k)) m (laid_over (tab n f) buffer) ≡ laid_over (tab (n + m) f) buffer
-unfolding each only_if
-lay_more n zero f g buffer l h = rw (add-zero n)
-lay_more n (suc m) f g buffer l h =
-    rw (lay_more n m f g buffer (omega arith) (λ k b. h k (omega arith)), h m (omega arith), add-suc n m) (lay_one (n + m) f buffer (omega arith))
+-- .. and a run of m values more
+tab_more : (n m : ℕ) (f : ℕ → ℕ) → tab (n + m) f ≡ tab n f ++ tab m (λ k. f (n + k))
+unfolding tab
+tab_more zero m f =
+    let e : 0 + m ≡ m = omega arith in
+    rw e (tab_ext m f (λ k. f (0 + k)) (λ k b. (let d : k ≡ 0 + k = omega arith in ap f d)))
+tab_more (suc n) m f =
+    let e : suc n + m ≡ suc (n + m) = omega arith in
+    let rest = tab_ext m (λ k. f (suc (n + k))) (λ k. f (suc n + k)) (λ k b. (let d : suc (n + k) ≡ suc n + k = omega arith in ap f d)) in
+    rw e (ap (λ t. f 0 ∷ t) (tab_more n m (λ k. f (suc k)) ∙ ap (λ t. tab n (λ k. f (suc k)) ++ t) rest))
 
--- a list filled from its front, one value after the other
-pub filled : {A : Type 0} (f : ℕ → A) (n : ℕ) (xs : List A) (d : A) → length xs ≡ n → each (λ k. true) (λ k ys. set ys k (f k)) n xs ≡ tab n f
-unfolding pick
-filled f n xs d e = set_loop (λ k. true) f xs n d e
+pub lay_run : (n m k : ℕ) (f : ℕ → ℕ) (bs buffer s : List ℕ) → k ≡ m → bs ≡ tab m (λ j. f (n + j)) → s ≡ laid_over (tab n f) buffer
+    → put_mid n k s bs ≡ laid_over (tab (n + m) f) buffer
+unfolding laid_over
+lay_run n m k f bs buffer s e b h =
+    rw (
+      e,
+      b,
+      h,
+      length-tab n f,
+      take_at (tab n f) (drop n buffer) n (length-tab n f),
+      drop_at (tab n f) (drop n buffer) n (length-tab n f),
+      drop-drop m n buffer,
+      length-tab (n + m) f,
+      tab_more n m f,
+    )
+    (sym (append_assoc (tab n f) (tab m (λ j. f (n + j))) (drop (n + m) buffer)))
+
+-- values laid over as many or fewer are those values
+pub lay_whole : (bs buffer : List ℕ) → length buffer ≤ length bs → laid_over bs buffer ≡ bs
+unfolding laid_over
+lay_whole bs buffer h = rw (drop_all (length bs) buffer h, append-nil)

@@ -1,30 +1,40 @@
 -- What was packed is read back, and what is read back has those bytes. Assumes nothing.
-use mathlib.Core.Path.{◌≡◌, refl, sym, ap, ◌∙◌}
+use mathlib.Core.Path.{◌≡◌, refl, sym, ap, ap₂, ◌∙◌}
 use mathlib.Core.Bool.{Bool, true, false, not, ◌&&◌}
-use mathlib.Core.List.{List}
+use mathlib.Core.List.{List, ◌++◌}
 use Prim.Native.Nat.{ℕ, ◌+◌, ◌*◌, ◌/◌, ◌%◌, ◌≤◌, ◌<◌}
 use native.Mathlib.Decide.{dec_lt}
 use native.Mathlib.Omega.{arith}
 use lib.Dec.{eqb, ltb}
-use lib.ListN.{length, get_or, set}
-use lib.Seq.{ext_get_or}
+use borrow.Rule.Slice.PartMut.{put_mid}
+use lib.ListN.{length, get_or, set, take, drop, length-drop}
+use lib.Seq.{ext_get_or, get_or-take, get_or-drop, length-take-le}
 use mir.Val.{bool_byte}
 use borrow.Author.Tests.{eqb-true, eqb-false, lt-ltb, le-leb, lt-leb, leb-true, ltb-true}
 use Rattle.bits.specs.Choice.{both}
 use Rattle.bits.specs.Loop.{tab, all_below}
 use Rattle.bits.specs.Sets.{lane_count}
 use Rattle.bits.proofs.Tests.{split, and_both, both_l, both_r, both_i, pick_true, pick-false}
-use Rattle.bits.proofs.Loops.{tab_at, tab_ext, length-tab, all_at, all_intro}
+use Rattle.bits.proofs.Loops.{tab_at, tab_ext, length-tab, all_at, all_intro, all_ext}
 use Rattle.model.specs.Records.{idle_record, record_at}
 use Rattle.model.specs.Outcome.{laid_over}
 use Rattle.model.specs.declared.lane.Working.{Working}
-use Rattle.packing.specs.Packing.{record_length, line_index, state_length, record_bytes, packed_byte, packed, record_from, lane_bytes, with_lane_bytes, unpacked, same_bytes, is_record, is_packing}
+use Rattle.packing.specs.Packing.{record_length, line_index, state_length, record_bytes, packed_byte, packed, record_from, lane_bytes, unpacked, same_bytes, is_record, is_packing}
 use Rattle.packing.proofs.Records.{record_back, length_record, is_own}
-use Rattle.packing.proofs.Laid.{laid_at_lem, laid_past, length_laid, lay_one, lay_more}
+use Rattle.packing.proofs.Laid.{laid_at_lem, laid_past, length_laid, lay_one, lay_run, lay_whole}
 
 -- a list is the table of its values
 table_of : {A : Type 0} (n : ℕ) (xs : List A) (d : A) → length xs ≡ n → tab n (λ k. get_or xs k d) ≡ xs
 table_of n xs d e = ext_get_or d _ _ (length-tab n _ ∙ sym e) (λ k l. tab_at n _ k d (omega (arith, length-tab n (λ k. get_or xs k d))))
+
+-- a lane's bytes are a run of the state's
+pub lane_run : (state : List ℕ) (l at k : ℕ) → at ≡ l * record_length → k ≡ record_length → at + record_length ≤ length state → take k (drop at state) ≡ lane_bytes state l
+unfolding lane_bytes
+lane_run state l at k e f h =
+    let long : k ≤ length (drop at state) = omega (arith, length-drop at state) in
+    ext_get_or 0 _ _ (length-take-le k (drop at state) long ∙ f ∙ sym (length-tab record_length _)) (λ i b.
+    let i_lt : i < k = omega (arith, length-take-le k (drop at state) long) in
+    get_or-take k (drop at state) i 0 i_lt ∙ get_or-drop at state i 0 ∙ ap (λ j. get_or state (j + i) 0) e ∙ sym (tab_at record_length _ i 0 (omega arith)))
 
 -- byte k of a lane's
 pub packed-lane : (w : Working) (l k : ℕ) → l < lane_count → k < record_length → packed_byte w (l * record_length + k) ≡ get_or (record_bytes (record_at w l)) k 0
@@ -114,26 +124,30 @@ module _ (state : List ℕ) (good : is_packing state ≡ true) where
   ])
 
 -- a lane's bytes more of a state that is being packed
-lane_laid : (w : Working) (l : ℕ) (state s : List ℕ) → l < lane_count → state_length ≤ length state
-    → s ≡ laid_over (tab (l * record_length) (packed_byte w)) state → with_lane_bytes s l (record_bytes (record_at w l)) ≡ laid_over (tab ((l + 1) * record_length) (packed_byte w)) state
-unfolding with_lane_bytes
-lane_laid w l state s h room e =
+pub lane_turn : (w : Working) (l k : ℕ) (state s bs : List ℕ) → l < lane_count → k ≡ record_length
+    → s ≡ laid_over (tab (l * record_length) (packed_byte w)) state → bs ≡ record_bytes (record_at w l)
+    → put_mid (l * record_length) k s bs ≡ laid_over (tab ((l + 1) * record_length) (packed_byte w)) state
+lane_turn w l k state s bs h e laid own =
     let n : (l + 1) * record_length ≡ l * record_length + record_length = omega arith in
-    rw (e, n)
-    (lay_more (l * record_length) record_length (packed_byte w) (λ k. get_or (record_bytes (record_at w l)) k 0) state (omega arith) (λ k b. sym (packed-lane w l k h b)))
-
-pub lane_turn : (w : Working) (l : ℕ) (state s t bs : List ℕ) → l < lane_count → state_length ≤ length state
-    → s ≡ laid_over (tab (l * record_length) (packed_byte w)) state → bs ≡ record_bytes (record_at w l) → t ≡ with_lane_bytes s l bs
-    → (length t ≡ length state) × (t ≡ laid_over (tab ((l + 1) * record_length) (packed_byte w)) state)
-lane_turn w l state s t bs h room e eb et =
-    let next = et ∙ ap (with_lane_bytes s l) eb ∙ lane_laid w l state s h room e in
-    (ap length next ∙ length_laid ((l + 1) * record_length) (packed_byte w) state (omega arith), next)
+    let table = sym (table_of record_length (record_bytes (record_at w l)) 0 (length_record (record_at w l))) in
+    let run = own ∙ table ∙ tab_ext record_length _ _ (λ j b. sym (packed-lane w l j h b)) in
+    rw n (lay_run (l * record_length) record_length k (packed_byte w) bs state s e run laid)
 
 -- .. and the line's byte at last
 pub line_laid : (w : Working) (state s : List ℕ) → state_length ≤ length state
     → s ≡ laid_over (tab line_index (packed_byte w)) state → set s line_index (bool_byte w.line) ≡ laid_over (packed w) state
 unfolding packed
 line_laid w state s room e = rw (e, ← packed-line w) (lay_one line_index (packed_byte w) state (omega arith))
+
+-- a state's bytes laid over as many
+pub packed-whole : (w : Working) (state : List ℕ) → length state ≡ state_length → laid_over (packed w) state ≡ packed w
+unfolding packed
+packed-whole w state e = lay_whole (tab state_length (packed_byte w)) state (omega (arith, length-tab state_length (packed_byte w)))
+
+-- .. and over the front of a buffer
+pub packed_front : (w : Working) (state : List ℕ) → laid_over (packed w) state ≡ packed w ++ drop state_length state
+unfolding laid_over packed
+packed_front w state = rw (length-tab state_length (packed_byte w))
 
 -- the test as code makes it
 pub packing_short : (state : List ℕ) → length state < state_length → false ≡ is_packing state
@@ -144,3 +158,26 @@ pub packing_by : (state : List ℕ) (g : Bool) → state_length ≤ length state
     → (g && ltb (get_or state line_index 0) 2) ≡ is_packing state
 unfolding is_packing both
 packing_by state g h e = rw (le-leb state_length (length state) h, and_both, e, both)
+
+-- what is read of a buffer is read of its front alone
+module _ (state : List ℕ) (room : state_length ≤ length state) where
+  lane_front : (l : ℕ) → l < lane_count → lane_bytes (take state_length state) l ≡ lane_bytes state l
+  unfolding lane_bytes
+  lane_front l h = tab_ext record_length _ _ (λ k b. get_or-take state_length state (l * record_length + k) 0 (omega arith))
+
+  line_front : get_or (take state_length state) line_index 0 ≡ get_or state line_index 0
+  line_front = get_or-take state_length state line_index 0 (omega arith)
+
+  pub packing_front : is_packing (take state_length state) ≡ is_packing state
+  unfolding is_packing
+  packing_front =
+      let long = le-leb state_length (length (take state_length state)) (omega (arith, length-take-le state_length state room)) ∙ sym (le-leb state_length (length state) room) in
+      let lanes = all_ext lane_count _ _ (λ l h. ap is_record (lane_front l h)) in
+      ap₂ both long (ap₂ both lanes (ap (λ b. ltb b 2) line_front))
+
+  pub unpacked_front : unpacked (take state_length state) ≡ unpacked state
+  unfolding unpacked
+  unpacked_front =
+      let lanes = tab_ext lane_count _ _ (λ l h. ap record_from (lane_front l h)) in
+      let line = ap (λ b. not (eqb b 0)) line_front in
+      λ i. record { lanes = lanes i; line = line i }

@@ -1,8 +1,8 @@
 -- The working state as bytes, for a caller that keeps it in a buffer: sixteen bytes for each lane's record, then one for the low-power line.
-use Rattle.std.specs.Prelude.{Bool, true, not, [], ◌∷◌, ◌+◌, ◌*◌, ◌/◌, ◌%◌, eqb, leb, ltb, length, get_or, set}
+use Rattle.std.specs.Prelude.{Bool, not, [], ◌∷◌, ◌+◌, ◌*◌, ◌/◌, ◌%◌, eqb, leb, ltb, length, get_or, None, Some, Option}
 use mir.Val.{bool_byte}
 use Rattle.bits.specs.Choice.{pick, both}
-use Rattle.bits.specs.Loop.{each, tab, all_below}
+use Rattle.bits.specs.Loop.{tab, all_below}
 use Rattle.bits.specs.Sets.{Lane, lane_count}
 use Rattle.model.specs.Numbers.{Byte, Bytes, Count, Index}
 use Rattle.model.specs.Records.{record_at}
@@ -13,8 +13,6 @@ use Rattle.model.specs.declared.lane.StagedSet.TheVariants.{Set0, Set1}
 use Rattle.model.specs.declared.lane.Verdict.{Verdict}
 use Rattle.model.specs.declared.lane.Verdict.TheVariants.{Pass, Reject}
 use Rattle.model.specs.declared.lane.Progress.{Progress}
-use Rattle.model.specs.declared.lane.Stage.{Stage}
-use Rattle.model.specs.declared.lane.Stage.TheVariants.{Idle, InProgress}
 use Rattle.model.specs.declared.lane.LaneRecord.{LaneRecord}
 use Rattle.model.specs.declared.lane.Working.{Working}
 
@@ -49,9 +47,9 @@ verdict_number (Pass n) = n
 verdict_number (Reject c) = c
 
 -- THE TABLE of a record's bytes. An idle lane's are 0, but for what is on; that stands in the last two, the high byte first
-unfoldable pub record_bytes_by : Stage → Byte → Byte → Bytes
-record_bytes_by Idle high low = 0 ∷ 0 ∷ 0 ∷ 0 ∷ 0 ∷ 0 ∷ 0 ∷ 0 ∷ 0 ∷ 0 ∷ 0 ∷ 0 ∷ 0 ∷ 0 ∷ high ∷ low ∷ []
-record_bytes_by (InProgress p) high low =
+unfoldable pub record_bytes_by : Option Progress → Byte → Byte → Bytes
+record_bytes_by None high low = 0 ∷ 0 ∷ 0 ∷ 0 ∷ 0 ∷ 0 ∷ 0 ∷ 0 ∷ 0 ∷ 0 ∷ 0 ∷ 0 ∷ 0 ∷ 0 ∷ high ∷ low ∷ []
+record_bytes_by (Some p) high low =
     1 ∷ p.group
     ∷ p.held.config ∷ p.held.adaptive ∷ p.held.equalizer ∷ p.held.cdr_tx ∷ p.held.cdr_rx ∷ p.held.pre ∷ p.held.post ∷ p.held.amplitude
     ∷ trigger_byte p.trigger ∷ set_byte p.set ∷ verdict_byte p.verdict ∷ verdict_number p.verdict ∷ high ∷ low ∷ []
@@ -100,15 +98,11 @@ progress_from bs =
 
 -- the record that a lane's bytes are read as, whether they are a record's or not
 unfoldable pub record_from : Bytes → LaneRecord
-record_from bs = record { stage = pick (eqb (get_or bs 0 0) 0) Idle (InProgress (progress_from bs)); on = get_or bs 14 0 * 256 + get_or bs 15 0 }
+record_from bs = record { stage = pick (eqb (get_or bs 0 0) 0) None (Some (progress_from bs)); on = get_or bs 14 0 * 256 + get_or bs 15 0 }
 
 -- a lane's bytes of a state
 unfoldable pub lane_bytes : Bytes → Lane → Bytes
 lane_bytes state l = tab record_length (λ k. get_or state (l * record_length + k) 0)
-
--- a state with sixteen bytes in the place of a lane's
-unfoldable pub with_lane_bytes : Bytes → Lane → Bytes → Bytes
-with_lane_bytes state l bs = each (λ k. true) (λ k s. set s (l * record_length + k) (get_or bs k 0)) record_length state
 
 -- the working state that a state's bytes are read as
 unfoldable pub unpacked : Bytes → Working

@@ -1,35 +1,19 @@
-// The working state laid over the front of a lent buffer.
+// A working state as bytes.
 #![tactic(auto)]
 
-ghost use Rattle.std.specs.Prelude.{◌≡◌, ◌≤◌, ◌<◌, length};
-ghost use Rattle.bits.specs.Sets.{lane_count};
-ghost use Rattle.model.specs.Outcome.{laid_over};
-ghost use Rattle.packing.specs.Packing.{state_length, packed, with_lane_bytes};
+ghost use Rattle.std.specs.Prelude.{◌≡◌};
+ghost use Rattle.packing.specs.Packing.{packed};
 
-use model::lane::{LaneRecord, Working};
-use packing::{LINE_INDEX, RECORD_LENGTH};
+use model::lane::Working;
+use packing::{LINE_INDEX, RECORD_LENGTH, STATE_LENGTH};
 
-// Sixteen bytes laid over a lane's.
-fn lay(state: &mut [u8], lane: u8, bytes: [u8; 16])
-    requires { (lane < lane_count) × (state_length ≤ length state.old) }
-    ensures { state.new ≡ with_lane_bytes state.old lane bytes }
+// A working state's bytes, in the place of what was there.
+pub fn pack(state: &mut [u8; STATE_LENGTH], w: Working)
+    ensures { state.new ≡ packed w }
 {
-    let at = (lane as usize) * RECORD_LENGTH;
-    for k in 0..RECORD_LENGTH {
-        state[at + k] = bytes[k];
-    }
-}
-
-// A working state laid over the front of a buffer.
-pub fn pack(state: &mut [u8], w: Working)
-    requires { state_length ≤ length state.old }
-    ensures { state.new ≡ laid_over (packed w) state.old }
-{
-    for lane in 0..LaneRecord::COUNT {
-        let i = lane as usize;
-        let own = w.lanes[i];
-        let bytes = packing_bytes::record_bytes(own);
-        lay(state, lane, bytes);
+    for (lane, own) in w.lanes.iter().enumerate() {
+        let at = lane * RECORD_LENGTH;
+        state[at..at + RECORD_LENGTH].copy_from_slice(&packing_bytes::record_bytes(*own));
     }
     state[LINE_INDEX] = w.line as u8;
 }

@@ -1,57 +1,51 @@
 // Page selection, and where the half of memory starts that an address lies in.
 #![tactic(auto)]
 
-ghost use Rattle.std.specs.Prelude.{◌≡◌, length};
-ghost use Rattle.model.specs.Map.{image_length};
+ghost use Rattle.std.specs.Prelude.{◌≡◌};
 ghost use Rattle.model.specs.Pages.{page_start, selected_start, index_of, selected_image};
 ghost use Rattle.pages.specs.Halves.{half_start};
 
-use model::page::PageStart;
+use model::image::Image;
 
 // 126 BankSelect, 127 PageSelect.
 const BANK_SELECT: usize = 126;
 
 pub const PAGE_SELECT: usize = 127;
 
-// Where a page starts in the image: 10h, 11h and 9Fh only in bank 0.
-fn page_start(bank: u8, page: u8) -> PageStart
+// Where a page starts in the image, if the module has it: 10h, 11h and 9Fh only in bank 0.
+fn page_start(bank: u8, page: u8) -> Option<usize>
     ensures { result ≡ page_start bank page }
 {
     if page == 0x00 {
-        return PageStart::At(map::PAGE_00);
+        return Some(map::PAGE_00);
     }
     if page == 0x01 {
-        return PageStart::At(map::PAGE_01);
+        return Some(map::PAGE_01);
     }
     if page == 0x02 {
-        return PageStart::At(map::PAGE_02);
+        return Some(map::PAGE_02);
     }
     if (page == 0x10) & (bank == 0) {
-        return PageStart::At(map::PAGE_10);
+        return Some(map::PAGE_10);
     }
     if (page == 0x11) & (bank == 0) {
-        return PageStart::At(map::PAGE_11);
+        return Some(map::PAGE_11);
     }
     if (page == 0x9f) & (bank == 0) {
-        return PageStart::At(map::PAGE_9F);
+        return Some(map::PAGE_9F);
     }
-    PageStart::Unsupported
+    None
 }
 
 // Where the upper half starts now.
-fn selected_start(image: &[u8]) -> usize
-    requires { length image.now ≡ image_length }
+fn selected_start(image: &Image) -> usize
     ensures { result ≡ selected_start image.now }
 {
-    match page_start(image[BANK_SELECT], image[PAGE_SELECT]) {
-        PageStart::Unsupported => map::PAGE_00,
-        PageStart::At(start) => start,
-    }
+    page_start(image[BANK_SELECT], image[PAGE_SELECT]).unwrap_or(map::PAGE_00)
 }
 
 // Where the half of memory starts that an address lies in: the upper half lies on the page selected now.
-pub fn half_start(image: &[u8], address: usize) -> usize
-    requires { length image.now ≡ image_length }
+pub fn half_start(image: &Image, address: usize) -> usize
     ensures { result ≡ half_start image.now address }
 {
     if address < map::PAGE_LENGTH {
@@ -61,8 +55,7 @@ pub fn half_start(image: &[u8], address: usize) -> usize
 }
 
 // The index in the image of an address that a host names.
-pub fn index_of(image: &[u8], address: u8) -> usize
-    requires { length image.now ≡ image_length }
+pub fn index_of(image: &Image, address: u8) -> usize
     ensures { result ≡ index_of image.now address }
 {
     let first = address as usize;
@@ -70,16 +63,15 @@ pub fn index_of(image: &[u8], address: u8) -> usize
 }
 
 // A byte written to 127.
-pub fn select_page(image: &mut [u8], page: u8)
-    requires { length image.old ≡ image_length }
+pub fn select_page(image: &mut Image, page: u8)
     ensures { image.new ≡ selected_image page image.old }
 {
     match page_start(image[BANK_SELECT], page) {
-        PageStart::Unsupported => {
+        None => {
             image[BANK_SELECT] = 0;
             image[PAGE_SELECT] = 0;
         }
-        PageStart::At(_) => {
+        Some(_) => {
             image[PAGE_SELECT] = page;
         }
     }

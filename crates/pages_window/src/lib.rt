@@ -6,8 +6,6 @@ ghost use Rattle.model.specs.Access.{shown_byte, taken_bytes};
 ghost use Rattle.model.specs.Outcome.{laid_over};
 ghost use Rattle.pages_window.specs.Hidden.{meets_hidden};
 
-use model::lane::TriggerPlace;
-
 #[derive(Drop)]
 pub struct Window<'a> {
     pub image: &'a [u8],
@@ -21,8 +19,8 @@ fn shown(image: &[u8], i: usize) -> u8
 {
     let v = image[i];
     match map_triggers::trigger_at(i) {
-        TriggerPlace::NoTrigger => map::without_reset(i, v),
-        TriggerPlace::Applies(_) => 0,
+        None => map::without_reset(i, v),
+        Some(_) => 0,
     }
 }
 
@@ -39,8 +37,8 @@ fn take_shown(image: &[u8], first: usize, count: usize, buffer: &mut [u8])
     requires { (first + count ≤ length image.now) × (count ≤ length buffer.old) }
     ensures { buffer.new ≡ laid_over (taken_bytes image.now first count) buffer.old }
 {
-    for k in 0..count {
-        buffer[k] = shown(image, first + k);
+    for (k, byte) in buffer[..count].iter_mut().enumerate() {
+        *byte = shown(image, first + k);
     }
 }
 
@@ -49,9 +47,7 @@ fn take_stored(image: &[u8], first: usize, count: usize, buffer: &mut [u8])
     requires { (first + count ≤ length image.now) × (count ≤ length buffer.old) × (meets_hidden first count ≡ false) }
     ensures { buffer.new ≡ laid_over (taken_bytes image.now first count) buffer.old }
 {
-    for k in 0..count {
-        buffer[k] = image[first + k];
-    }
+    buffer[..count].copy_from_slice(&image[first..first + count]);
 }
 
 // The bytes at an offset from a start, as a read shows them, into the front of the buffer.

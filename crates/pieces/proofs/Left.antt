@@ -63,9 +63,9 @@ pub fed-unchanged : {l : FeedLeft} {r : Fed} (a : Answer) (c : Carried) (x : Ima
 unfolding unchanged
 fed-unchanged a c x out e f = rw (e, f) (record { answer = refl; taken = refl; printed = refl; carried = refl; image = refl; out = refl })
 
-pub fed_left : (c : Carried) (x left : Image) (piece out after : List ℕ) (f : Feeding) → length x ≡ image_length → longest_line ≤ length out → IsTidy f.carried
+pub fed_left : (c : Carried) (x left : Image) (piece out after : List ℕ) (f : Feeding) → length x ≡ image_length → longest_line ≤ length out → IsTidy f.come.carried
     → standing f left after ≡ going (at_first (carried_by c x) out) piece
-    → IsFed (feed_left c x piece out) (record { answer = Done; taken = f.taken; printed = f.at; carried = f.carried }) left after
+    → IsFed (feed_left c x piece out) (record { answer = Done; taken = f.taken; printed = f.come.at; carried = f.come.carried }) left after
 unfolding left_at carried_by kept
 fed_left c x left piece out after f l room tidy e =
     rw (left_done c x piece out l room, ← e) (record { answer = refl; taken = refl; printed = refl; carried = tidy; image = refl; out = refl })

@@ -6,10 +6,9 @@ ghost use Rattle.model.specs.Stream.{begun};
 ghost use Rattle.pieces_carried.specs.Carrying.{kept};
 ghost use Rattle.pieces.specs.Feeding.{feed_left, end_left, IsFed};
 
-use map::IMAGE_LENGTH;
 use model::answer::Answer;
+use night_lines::LONGEST_LINE;
 use pieces_carried::Carried;
-use pieces_records::LONGEST_LINE;
 
 // What a feed and the end hand back: an answer, the bytes taken and printed, and what is carried on.
 #[derive(Clone, Copy)]
@@ -43,19 +42,18 @@ fn refused(answer: Answer, carried: Carried) -> Fed
 pub fn feed(image: &mut [u8], carried: Carried, piece: &[u8], out: &mut [u8]) -> Fed
     ensures { IsFed (feed_left carried image.old piece.now out.old) result image.new out.new }
 {
-    if image.len() != IMAGE_LENGTH {
+    let Some(image) = image.as_mut_array() else {
         return refused(Answer::WrongLength, carried);
-    }
+    };
     if out.len() < LONGEST_LINE {
         return refused(Answer::ShortBuffer, carried);
     }
     let f = pieces_onward::take_piece(image, carried, piece, out);
-    let carried = f.carried;
     Fed {
         answer: Answer::Done,
         taken: f.taken,
-        printed: f.at,
-        carried,
+        printed: f.come.at,
+        carried: f.come.carried,
     }
 }
 
@@ -68,11 +66,10 @@ pub fn finish(carried: Carried, out: &mut [u8]) -> Fed
     }
     let c = pieces_carried::tidied(carried);
     let t = pieces_end::end(c, out);
-    let carried = t.carried;
     Fed {
         answer: Answer::Done,
         taken: 0,
         printed: t.at,
-        carried,
+        carried: t.carried,
     }
 }

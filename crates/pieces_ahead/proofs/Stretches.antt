@@ -1,10 +1,11 @@
 -- How the code of a feed goes on: nowhere, over an image's bytes, over records, over all the rest. Assumes nothing.
 use mathlib.Core.Path.{◌≡◌, refl, sym, ap, ◌∙◌}
 use mathlib.Core.Bool.{true}
-use mathlib.Core.List.{List, [], ◌++◌, append-nil}
+use mathlib.Core.List.{List, [], ◌++◌, append_assoc, append-nil}
 use Prim.Native.Nat.{ℕ, zero, suc, ◌+◌, ◌-◌, ◌≤◌, ◌<◌}
 use native.Mathlib.Omega.{arith}
 use lib.ListN.{length, take, drop, length-drop, take-append-drop}
+use borrow.Rule.Slice.PartMut.{put_mid}
 use lib.Seq.{length-take-le, drop-length, drop-drop, paste}
 use borrow.Author.Tests.{leb-true}
 use Rattle.bits.specs.Choice.{pick}
@@ -55,35 +56,39 @@ in_phase phase c = record { phase = phase; edition = c.edition; held = c.held; c
 some_rest : (from n : ℕ) (piece : List ℕ) → drop from piece ≡ take n (drop from piece) ++ drop (from + n) piece
 some_rest from n piece = sym (take-append-drop n (drop from piece)) ∙ ap (λ (r : List ℕ). take n (drop from piece) ++ r) (drop-drop n from piece)
 
+-- bytes of a piece, copied over a part of an image
+pub copied_over : (x piece part : List ℕ) (at from n k m : ℕ) → k ≡ n → m ≡ n → part ≡ take m (drop from piece) → put_mid at k x part ≡ paste x at (drop from piece) n
+copied_over x piece part at from n k m p q e = rw (p, e, q, drop-drop n at x) (sym (append_assoc (take at x) (take n (drop from piece)) (drop (at + n) x)))
+
 -- over bytes of an image
 abbrev pub over_image : Feeding → ℕ → ℕ → ℕ → Feeding
-over_image f come records n = record { taken = f.taken + n; at = f.at; carried = in_phase (InImage (come + n) records) f.carried }
+over_image f come records n = record { taken = f.taken + n; come = record { at = f.come.at; carried = in_phase (InImage (come + n) records) f.come.carried } }
 
-module _ (f : Feeding) (x left : Image) (piece out : List ℕ) (come records n : ℕ) (tidy : IsTidy f.carried) (phase : f.carried.phase ≡ InImage come records)
-    (whole : length x ≡ image_length) (short : come + n < (edition_among later_editions f.carried.edition).image_bytes) (there : f.taken + n ≤ length piece) (copied : left ≡ paste x come (drop f.taken piece) n)
-    (room : f.at + longest_line ≤ length out) where
+module _ (f : Feeding) (x left : Image) (piece out : List ℕ) (come records n : ℕ) (tidy : IsTidy f.come.carried) (phase : f.come.carried.phase ≡ InImage come records)
+    (whole : length x ≡ image_length) (short : come + n < (edition_among later_editions f.come.carried.edition).image_bytes) (there : f.taken + n ≤ length piece) (copied : left ≡ paste x come (drop f.taken piece) n)
+    (room : f.come.at + longest_line ≤ length out) where
   abbrev bytes : List ℕ
   bytes = take n (drop f.taken piece)
 
   some : length bytes ≡ n
   some = length-take-le n (drop f.taken piece) (omega (arith, length-drop f.taken piece))
 
-  image-silent : fed (carried_by f.carried x) bytes ≡ silent (carried_by (over_image f come records n).carried left)
+  image-silent : fed (carried_by f.come.carried x) bytes ≡ silent (carried_by (over_image f come records n).come.carried left)
   unfolding carried_by held_in
   image-silent =
-      image-held (carried_by f.carried x) come records bytes phase (omega (arith, some)) (omega (arith, some, edition-fits f.carried.edition))
+      image-held (carried_by f.come.carried x) come records bytes phase (omega (arith, some)) (omega (arith, some, edition-fits f.come.carried.edition))
       ∙ rw (some, copied) refl
 
   pub image_goes : Goes piece (standing f x out) (over_image f come records n) left out
   unfolding carried_by held_in
   image_goes =
       record {
-        stands = record { tidy = tidy-phase f.carried tidy (InImage (come + n) records) []; within = there; fits = omega arith };
+        stands = record { tidy = tidy-phase f.come.carried tidy (InImage (come + n) records) []; within = there; fits = omega arith };
         onward = omega arith;
         same =
             sym (ap (going (standing f x out)) (some_rest f.taken n piece)
             ∙ going-silent (standing f x out) bytes (drop (f.taken + n) piece) _ image-silent room
-            ∙ ap (λ (k : ℕ). going (record { taken = f.taken + k; printed = f.at; carried = carried_by (over_image f come records n).carried left; out = out }) (drop (f.taken + n) piece)) some);
+            ∙ ap (λ (k : ℕ). going (record { taken = f.taken + k; printed = f.come.at; carried = carried_by (over_image f come records n).come.carried left; out = out }) (drop (f.taken + n) piece)) some);
       }
 
 -- ---- over records
@@ -147,46 +152,46 @@ module _ (edition records : ℕ) (piece : List ℕ) where
       rw (pick_true (runs row n (after_record row r piece) piece) r t) (record { onward = omega (arith, g.onward); within = g.within; fits = g.fits; same = g.same ∙ record_same r due t }))
       (λ t. rw (pick-false (runs row n (after_record row r piece) piece) r t) (record { onward = omega arith; within = within; fits = fits; same = refl }))
 
-between_tidy : (edition records : ℕ) (p : Played) → IsTidy (between_records edition records p).carried
+between_tidy : (edition records : ℕ) (p : Played) → IsTidy (between_records edition records p).come.carried
 unfolding kept carried_by held_in held_count between_records padded pick tab
 between_tidy edition records p = refl
 
 -- from between two records, where nothing is held
-between_stands : (f : Feeding) (x : Image) (out : List ℕ) (next records : ℕ) → f.carried.phase ≡ InRecords next records → f.carried.count ≡ 0
-    → standing f x out ≡ between_at f.carried.edition records (running (record { taken = f.taken; next = next; at = f.at; working = f.carried.working }) x out)
+between_stands : (f : Feeding) (x : Image) (out : List ℕ) (next records : ℕ) → f.come.carried.phase ≡ InRecords next records → f.come.carried.count ≡ 0
+    → standing f x out ≡ between_at f.come.carried.edition records (running (record { taken = f.taken; next = next; reached = record { at = f.come.at; working = f.come.carried.working } }) x out)
 unfolding carried_by held_in held_count pick
 between_stands f x out next records phase count =
     λ i. record {
       taken = f.taken;
-      printed = f.at;
+      printed = f.come.at;
       carried =
           record {
             phase = phase i;
-            edition = f.carried.edition;
-            held = ap (λ (n : ℕ). take (held_count n) f.carried.held) count i;
-            state = state_with x f.carried.working;
+            edition = f.come.carried.edition;
+            held = ap (λ (n : ℕ). take (held_count n) f.come.carried.held) count i;
+            state = state_with x f.come.carried.working;
           };
       out = out;
     }
 
 pub records_go : (f r : Feeding) (x left : Image) (piece out after : List ℕ) (next records : ℕ) (p : Played)
-    → Stands f piece out → f.carried.phase ≡ InRecords next records → f.carried.count ≡ 0 → next ≤ records
-    → running p left after ≡ runs (edition_among later_editions f.carried.edition) (records - next) (running (record { taken = f.taken; next = next; at = f.at; working = f.carried.working }) x out) piece
-    → r ≡ between_records f.carried.edition records p → Goes piece (standing f x out) r left after
+    → Stands f piece out → f.come.carried.phase ≡ InRecords next records → f.come.carried.count ≡ 0 → next ≤ records
+    → running p left after ≡ runs (edition_among later_editions f.come.carried.edition) (records - next) (running (record { taken = f.taken; next = next; reached = record { at = f.come.at; working = f.come.carried.working } }) x out) piece
+    → r ≡ between_records f.come.carried.edition records p → Goes piece (standing f x out) r left after
 unfolding carried_by held_in held_count between_records pick
 records_go f r x left piece out after next records p s phase count most ran e =
-    let start = running (record { taken = f.taken; next = next; at = f.at; working = f.carried.working }) x out in
-    let g : Ran f.carried.edition records piece start (running p left after) = rw ran (runs_on_lem f.carried.edition records piece (records - next) start (omega arith) s.within s.fits) in
+    let start = running (record { taken = f.taken; next = next; reached = record { at = f.come.at; working = f.come.carried.working } }) x out in
+    let g : Ran f.come.carried.edition records piece start (running p left after) = rw ran (runs_on_lem f.come.carried.edition records piece (records - next) start (omega arith) s.within s.fits) in
     rw (e, between_stands f x out next records phase count)
     (record {
-      stands = record { tidy = between_tidy f.carried.edition records p; within = g.within; fits = g.fits };
+      stands = record { tidy = between_tidy f.come.carried.edition records p; within = g.within; fits = g.fits };
       onward = g.onward;
       same = g.same;
     })
 
 -- after the last line, over all the rest
-pub over_goes : (f : Feeding) (x : Image) (piece out : List ℕ) → Stands f piece out → f.carried.phase ≡ Over → f.at + longest_line ≤ length out
-    → Goes piece (standing f x out) (record { taken = length piece; at = f.at; carried = f.carried }) x out
+pub over_goes : (f : Feeding) (x : Image) (piece out : List ℕ) → Stands f piece out → f.come.carried.phase ≡ Over → f.come.at + longest_line ≤ length out
+    → Goes piece (standing f x out) (record { taken = length piece; come = f.come }) x out
 unfolding carried_by going
 over_goes f x piece out s phase room =
     let rest : List ℕ = drop f.taken piece in
@@ -195,7 +200,7 @@ over_goes f x piece out s phase room =
       stands = record { tidy = s.tidy; within = omega arith; fits = s.fits };
       onward = s.within;
       same =
-          ap (going (record { taken = length piece; printed = f.at; carried = carried_by f.carried x; out = out })) (drop-length piece)
-          ∙ ap (λ (n : ℕ). going (record { taken = n; printed = f.at; carried = carried_by f.carried x; out = out }) []) (sym l)
-          ∙ sym (ap (going (standing f x out)) (sym (append-nil rest)) ∙ going-silent (standing f x out) rest [] _ (over_stays (carried_by f.carried x) phase rest) room);
+          ap (going (record { taken = length piece; printed = f.come.at; carried = carried_by f.come.carried x; out = out })) (drop-length piece)
+          ∙ ap (λ (n : ℕ). going (record { taken = n; printed = f.come.at; carried = carried_by f.come.carried x; out = out }) []) (sym l)
+          ∙ sym (ap (going (standing f x out)) (sym (append-nil rest)) ∙ going-silent (standing f x out) rest [] _ (over_stays (carried_by f.come.carried x) phase rest) room);
     }

@@ -58,8 +58,8 @@ module _ (c : Carried) (x left : Image) (next records at : ℕ) (bytes out after
 
   -- where it has gone on, it was played
   pub whole-right : (r : Carried) → (p.next ≡ next → ⊥)
-      → r ≡ record { phase = InRecords p.next records; edition = c.edition; held = padded []; count = 0; working = p.working }
-      → Leaves (took_record (carried_by c x) next records bytes) at out after left (record { at = p.at; carried = r })
+      → r ≡ record { phase = InRecords p.next records; edition = c.edition; held = padded []; count = 0; working = p.reached.working }
+      → Leaves (took_record (carried_by c x) next records bytes) at out after left (record { at = p.reached.at; carried = r })
   unfolding after_step played carried_by kept
   whole-right r moved q = split (is_record e first)
       (λ t. rw (record_right (carried_by c x) next records bytes due there t)

@@ -2,14 +2,15 @@
 #![tactic(auto)]
 
 ghost use Rattle.std.specs.Prelude.{◌≡◌, [], ◌∷◌, ◌++◌, ◌+◌, ◌≤◌, ◌<◌, length};
-ghost use Rattle.model.specs.Map.{image_length};
-ghost use Rattle.model.specs.File.{record_length};
 ghost use Rattle.model.specs.Stream.{took_record, took};
 ghost use Rattle.pieces_carried.specs.Carrying.{held_in, carried_by, IsTidy, Leaves};
 ghost use Rattle.night_text.specs.Buffer.{longest_line};
 
 use model::answer::Answer;
+use model::image::Image;
 use model::stream::Phase;
+use night_lines::Reached;
+use night_records::{Edition, Record};
 use pieces_carried::{Carried, Taken};
 use pieces_records::Played;
 
@@ -18,43 +19,44 @@ const RECORD_MOST: u8 = 11;
 
 // A whole record: its step and its line, or a bad line where it is malformed.
 fn take_whole_record(
-    image: &mut [u8],
+    image: &mut Image,
     c: Carried,
     next: u32,
     records: u32,
-    bytes: &[u8],
+    bytes: &Record,
     out: &mut [u8],
     at: usize,
 ) -> Taken
-    requires { (length image.old ≡ image_length) × (next < records) × (record_length ≤ length bytes.now) × (at + longest_line ≤ length out.old) }
+    requires { (next < records) × (at + longest_line ≤ length out.old) }
     ensures { Leaves (took_record (carried_by c image.old) next records bytes.now) at out.old out.new image.new result }
 {
-    let working = c.working;
     let first = Played {
         taken: 0,
         next,
-        at,
-        working,
+        reached: Reached {
+            at,
+            working: c.working,
+        },
     };
-    let played = pieces_records::play(image, first, c.edition, next + 1, bytes, out);
+    let edition = Edition::from(c.edition);
+    let played = pieces_records::play(image, first, edition, next + 1, bytes, out);
     if played.next == next {
         return pieces_carried::refuse(Answer::Malformed, c, out, at);
     }
-    let working = played.working;
     let phase = Phase::InRecords {
         next: played.next,
         records,
     };
-    let carried = pieces_carried::entering(phase, c.edition, working);
+    let carried = pieces_carried::entering(phase, c.edition, played.reached.working);
     Taken {
-        at: played.at,
+        at: played.reached.at,
         carried,
     }
 }
 
 // A byte of a record, which is judged at the last of them; none is due after the last record.
 fn take_record(
-    image: &mut [u8],
+    image: &mut Image,
     c: Carried,
     next: u32,
     records: u32,
@@ -62,7 +64,7 @@ fn take_record(
     out: &mut [u8],
     at: usize,
 ) -> Taken
-    requires { (length image.old ≡ image_length) × IsTidy c × (at + longest_line ≤ length out.old) }
+    requires { IsTidy c × (at + longest_line ≤ length out.old) }
     ensures { Leaves (took_record (carried_by c image.old) next records (held_in c ++ (b ∷ []))) at out.old out.new image.new result }
 {
     if records <= next {
@@ -73,16 +75,23 @@ fn take_record(
     }
     let mut held = c.held;
     held[c.count as usize] = b;
-    take_whole_record(image, c, next, records, &held, out, at)
+    take_whole_record(
+        image,
+        c,
+        next,
+        records,
+        held.first_chunk().unwrap(),
+        out,
+        at,
+    )
 }
 
 // One byte.
-pub fn take(image: &mut [u8], c: Carried, b: u8, out: &mut [u8], at: usize) -> Taken
-    requires { (length image.old ≡ image_length) × IsTidy c × (at + longest_line ≤ length out.old) }
+pub fn take(image: &mut Image, c: Carried, b: u8, out: &mut [u8], at: usize) -> Taken
+    requires { IsTidy c × (at + longest_line ≤ length out.old) }
     ensures { Leaves (took (carried_by c image.old) b) at out.old out.new image.new result }
 {
-    let phase = c.phase;
-    match phase {
+    match c.phase {
         Phase::InHeader => pieces_header::take_header(c, b, out, at),
         Phase::InImage { come, records } => pieces_image::take_image(
             image, c, come, records, b, out, at,

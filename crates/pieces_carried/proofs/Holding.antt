@@ -4,7 +4,7 @@ use mathlib.Core.List.{List, [], ◌∷◌, ◌++◌, append-nil}
 use Prim.Native.Nat.{ℕ, zero, suc, ◌+◌, ◌-◌, ◌≤◌, ◌<◌}
 use native.Mathlib.Omega.{arith}
 use lib.ListN.{length, set, take, drop, length-append, length-take}
-use lib.Seq.{length-take-le, take-append-le, set_at, append_snoc}
+use lib.Seq.{take_all, length-take-le, take-append-le, set_at, append_snoc}
 use borrow.Author.Tests.{ltb-true, le-ltb}
 use lib.Dec.{ltb}
 use Rattle.bits.specs.Loop.{tab}
@@ -86,16 +86,18 @@ zeros_left m zero = let e : m - 0 ≡ m = omega arith in rw e
 zeros_left zero (suc n) = let e : 0 - suc n ≡ 0 = omega arith in rw e
 zeros_left (suc m) (suc n) = let e : suc m - suc n ≡ m - n = omega arith in rw e (zeros_left m n)
 
--- what was held, and zeros after it, is what is kept
-pub tidied_is : (c : Carried) → length c.held ≡ held_room → (held : List ℕ) (count : ℕ) → count ≡ held_count c.count
-    → held ≡ take (held_count c.count) c.held ++ drop (held_count c.count) (tab held_room (λ i. 0))
-    → record { phase = c.phase; edition = c.edition; held = held; count = count; working = c.working } ≡ kept (carried_by c [])
+-- what was held, copied over zeros, is what is kept
+pub tidied_is : (c : Carried) → length c.held ≡ held_room → (copied : List ℕ) (count : ℕ) → count ≡ held_count c.count → copied ≡ take count c.held
+    → record { phase = c.phase; edition = c.edition; held = copied ++ drop count (tab held_room (λ i. 0)); count = count; working = c.working } ≡ kept (carried_by c [])
 unfolding kept carried_by held_in padded
-tidied_is c l held count n h =
+tidied_is c l copied count n h =
     let m : held_count c.count ≡ length (take (held_count c.count) c.held) =
     sym (length-take-le (held_count c.count) c.held (omega (arith, count-short c.count))) in
     let z = zeros_left held_room (held_count c.count) ∙ ap (λ k. tab (held_room - k) (λ i. 0)) m in
-    let p = h ∙ ap (λ z. take (held_count c.count) c.held ++ z) z in
+    let p =
+    ap (λ b. b ++ drop count (tab held_room (λ i. 0))) h
+    ∙ ap (λ k. take k c.held ++ drop k (tab held_room (λ i. 0))) n
+    ∙ ap (λ z. take (held_count c.count) c.held ++ z) z in
     λ i. record { phase = c.phase; edition = c.edition; held = p i; count = (n ∙ m) i; working = c.working }
 
 -- the zeros are not among the bytes of a whole record ..
@@ -104,12 +106,15 @@ unfolding padded
 record_front h l = take-append-le record_length h (tab (held_room - length h) (λ i. 0)) l
 
 -- .. by which it is judged and played
-pub took-padded : (m : stream.Carried) (next records : ℕ) (h : List ℕ) → record_length ≤ length h → length h ≤ held_room
-    → took_record m next records (padded h) ≡ took_record m next records h
+pub took-padded : (m : stream.Carried) (next records : ℕ) (h : List ℕ) → record_length ≤ length h
+    → took_record m next records (take record_length (padded h)) ≡ took_record m next records h
 unfolding took_record
-took-padded m next records h l f = split (ltb next records)
+took-padded m next records h l =
+    let r : List ℕ = take record_length (padded h) in
+    let n : length r ≡ record_length = ap length (record_front h l) ∙ length-take-le record_length h l in
+    split (ltb next records)
     (λ due. pick_true _ _ due
-    ∙ pick-false _ _ (le-ltb (length (padded h)) record_length (omega (arith, length-padded h f)))
-    ∙ ap (judged_record m next records) (record_front h l)
+    ∙ pick-false _ _ (le-ltb (length r) record_length (omega arith))
+    ∙ ap (judged_record m next records) (take_all record_length r (omega arith) ∙ record_front h l)
     ∙ sym (pick_true _ _ due ∙ pick-false _ _ (le-ltb (length h) record_length l)))
     (λ none. pick-false _ _ none ∙ sym (pick-false _ _ none))

@@ -11,7 +11,7 @@ use model::lane::Working;
 use model::stream::Phase;
 
 // Room for a whole header, the longest part that is gathered.
-const HELD_ROOM: u8 = 16;
+const HELD_ROOM: usize = 16;
 
 // The most that is held of a header that is not whole.
 pub const HEADER_MOST: u8 = 15;
@@ -21,7 +21,7 @@ pub const HEADER_MOST: u8 = 15;
 pub struct Carried {
     pub phase: Phase,
     pub edition: u8,
-    pub held: [u8; 16],
+    pub held: [u8; HELD_ROOM],
     pub count: u8,
     pub working: Working,
 }
@@ -34,55 +34,42 @@ pub struct Taken {
 }
 
 // A phase that begins, with nothing held.
+#[tactic(auto, unfolding(crate::specs::Carrying::padded, bits::specs::Loop::tab))]
 pub fn entering(phase: Phase, edition: u8, working: Working) -> Carried
     ensures { result ≡ record { phase = phase; edition = edition; held = padded []; count = 0; working = working } }
 {
     Carried {
         phase,
         edition,
-        held: [0u8; 16],
+        held: [0u8; HELD_ROOM],
         count: 0,
         working,
     }
 }
 
 // Before the first byte.
+#[tactic(auto, unfolding(crate::specs::Carrying::kept, model::specs::Stream::begun))]
 pub fn begun() -> Carried
     ensures { result ≡ kept (begun []) }
 {
-    let working = Working::idle();
-    entering(Phase::InHeader, 0, working)
+    entering(Phase::InHeader, 0, Working::idle())
 }
 
 // How many bytes are held: a part that is not whole lacks one at least.
 fn held_count(count: u8) -> u8
     ensures { (result ≡ held_count count) × (result < held_room) }
 {
-    if count < HELD_ROOM {
-        return count;
-    }
-    HEADER_MOST
+    count.min(HEADER_MOST)
 }
 
 // What is carried, with zeros after the bytes that are held.
 pub fn tidied(c: Carried) -> Carried
     ensures { result ≡ kept (carried_by c []) }
 {
-    let phase = c.phase;
-    let working = c.working;
     let count = held_count(c.count);
-    let source = c.held;
-    let mut held = [0u8; 16];
-    for i in 0..count {
-        held[i as usize] = source[i as usize];
-    }
-    Carried {
-        phase,
-        edition: c.edition,
-        held,
-        count,
-        working,
-    }
+    let mut held = [0u8; HELD_ROOM];
+    held[..count as usize].copy_from_slice(&c.held[..count as usize]);
+    Carried { held, count, ..c }
 }
 
 // A bad line, the last one.
@@ -90,10 +77,8 @@ pub fn refuse(answer: Answer, c: Carried, out: &mut [u8], at: usize) -> Taken
     requires { at + longest_line ≤ length out.old }
     ensures { LeavesOfAny (λ x. refused answer (carried_by c x)) at out.old out.new result }
 {
-    let working = c.working;
-    let number = answer.number();
-    let at = night_text::put_bad(out, at, number);
-    let carried = entering(Phase::Over, c.edition, working);
+    let at = night_text::put_bad(out, at, u8::from(answer));
+    let carried = entering(Phase::Over, c.edition, c.working);
     Taken { at, carried }
 }
 
@@ -102,16 +87,12 @@ pub fn hold(c: Carried, b: u8, at: usize) -> Taken
     requires { IsTidy c × (c.count + 1 < held_room) }
     ensures { (result.at ≡ at) × HoldsOneMore c b result.carried }
 {
-    let phase = c.phase;
-    let working = c.working;
     let mut held = c.held;
     held[c.count as usize] = b;
     let carried = Carried {
-        phase,
-        edition: c.edition,
         held,
         count: c.count + 1,
-        working,
+        ..c
     };
     Taken { at, carried }
 }

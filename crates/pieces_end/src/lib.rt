@@ -17,11 +17,9 @@ fn end_records(c: Carried, next: u32, records: u32, out: &mut [u8]) -> Taken
     ensures { LeavesOfAny (λ x. ended_in (InRecords next records) (carried_by c x)) 0 out.old out.new result }
 {
     if (records <= next) & (c.count == 0) {
-        let working = c.working;
-        let over = pieces_carried::entering(Phase::Over, c.edition, working);
         return Taken {
             at: 0,
-            carried: over,
+            carried: pieces_carried::entering(Phase::Over, c.edition, c.working),
         };
     }
     pieces_carried::refuse(Answer::Malformed, c, out, 0)
@@ -32,13 +30,10 @@ pub fn end(c: Carried, out: &mut [u8]) -> Taken
     requires { IsTidy c × (longest_line ≤ length out.old) }
     ensures { LeavesOfAny (λ x. ended (carried_by c x)) 0 out.old out.new result }
 {
-    let phase = c.phase;
-    match phase {
-        Phase::InHeader => pieces_carried::refuse(Answer::Malformed, c, out, 0),
-        Phase::InImage {
-            come: _,
-            records: _,
-        } => pieces_carried::refuse(Answer::Malformed, c, out, 0),
+    match c.phase {
+        Phase::InHeader | Phase::InImage { .. } => {
+            pieces_carried::refuse(Answer::Malformed, c, out, 0)
+        }
         Phase::InRecords { next, records } => end_records(c, next, records, out),
         Phase::Over => Taken { at: 0, carried: c },
     }

@@ -10,8 +10,10 @@ ghost use Rattle.pieces_carried.specs.Carrying.{carried_by, IsTidy, Leaves};
 ghost use Rattle.night_text.specs.Buffer.{longest_line};
 
 use model::answer::Answer;
+use model::image::Image;
 use model::lane::Working;
 use model::stream::Phase;
+use night_records::Edition;
 use pieces_carried::{Carried, Taken};
 
 // A byte in its place of the image.
@@ -24,20 +26,19 @@ fn put_image_byte(image: &mut [u8], i: usize, b: u8)
 }
 
 // A whole image as it is laid out, by what start answers to it.
-fn start(image: &mut [u8], c: Carried, records: u32, out: &mut [u8], at: usize) -> Taken
-    requires { (length image.old ≡ image_length) × (at + longest_line ≤ length out.old) }
+fn start(image: &mut Image, c: Carried, records: u32, out: &mut [u8], at: usize) -> Taken
+    requires { at + longest_line ≤ length out.old }
     ensures { Leaves (started_by (first_of (start_refusals image.old)) (carried_by c image.old) records image.old) at out.old out.new image.new result }
 {
     let answer = start_image::refusal(image);
-    if answer.number() != 0 {
+    if answer != Answer::Done {
         return pieces_carried::refuse(answer, c, out, at);
     }
     start_image::reset(image);
-    let working = Working::idle();
     let carried = pieces_carried::entering(
         Phase::InRecords { next: 0, records },
         c.edition,
-        working,
+        Working::idle(),
     );
     Taken { at, carried }
 }
@@ -47,23 +48,18 @@ fn more_image(c: Carried, come: u16, records: u32) -> Carried
     requires { come + 1 < image_length }
     ensures { result ≡ record { phase = InImage (come + 1) records; edition = c.edition; held = c.held; count = c.count; working = c.working } }
 {
-    let held = c.held;
-    let working = c.working;
     Carried {
         phase: Phase::InImage {
             come: come + 1,
             records,
         },
-        edition: c.edition,
-        held,
-        count: c.count,
-        working,
+        ..c
     }
 }
 
 // A byte of the image.
 pub fn take_image(
-    image: &mut [u8],
+    image: &mut Image,
     c: Carried,
     come: u16,
     records: u32,
@@ -71,11 +67,11 @@ pub fn take_image(
     out: &mut [u8],
     at: usize,
 ) -> Taken
-    requires { (length image.old ≡ image_length) × IsTidy c × (at + longest_line ≤ length out.old) }
+    requires { IsTidy c × (at + longest_line ≤ length out.old) }
     ensures { Leaves (took_image (carried_by c image.old) come records (set image.old come b)) at out.old out.new image.new result }
 {
     put_image_byte(image, come as usize, b);
-    let length = night_file::image_bytes(c.edition);
+    let length = night_file::image_bytes(Edition::from(c.edition));
     if (come as usize) + 1 < length {
         let carried = more_image(c, come, records);
         return Taken { at, carried };

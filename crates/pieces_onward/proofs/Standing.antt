@@ -27,20 +27,20 @@ use Rattle.pieces_ahead.specs.Standing.{standing, Stands, Goes}
 
 -- a byte by itself
 module _ (f : Feeding) (x left : Image) (piece out after : List ℕ) (r : Taken) (stands : Stands f piece out) (there : f.taken < length piece)
-    (room : f.at + longest_line ≤ length out) (kept-length : length after ≡ length out)
-    (leaves : Leaves (took (carried_by f.carried x) (get_or piece f.taken 0)) f.at out after left r) where
+    (room : f.come.at + longest_line ≤ length out) (kept-length : length after ≡ length out)
+    (leaves : Leaves (took (carried_by f.come.carried x) (get_or piece f.taken 0)) f.come.at out after left r) where
   abbrev b : ℕ
   b = get_or piece f.taken 0
 
   abbrev t : Took
-  t = took (carried_by f.carried x) b
+  t = took (carried_by f.come.carried x) b
 
   short : length t.carried.held < held_room
   unfolding carried_by
-  short = took-short (carried_by f.carried x) (held-short f.carried) b
+  short = took-short (carried_by f.come.carried x) (held-short f.come.carried) b
 
   abbrev over_byte : Feeding
-  over_byte = record { taken = f.taken + 1; at = r.at; carried = r.carried }
+  over_byte = record { taken = f.taken + 1; come = r }
 
   back : t.carried ≡ carried_by r.carried left
   back = sym (rw (leaves.carried, leaves.registers) (kept_back t.carried short))
@@ -78,7 +78,7 @@ module _ (c : Carried) {r : Carried} (tidied : r ≡ kept (carried_by c [])) whe
   tidied_same x = ap (λ (d : Carried). carried_by d x) tidied ∙ kept_back (carried_by c x) (held-short c)
 
   -- before the first byte
-  pub tidied_begins : (x : Image) (piece out : List ℕ) → Goes piece (at_first (carried_by c x) out) (record { taken = 0; at = 0; carried = r }) x out
+  pub tidied_begins : (x : Image) (piece out : List ℕ) → Goes piece (at_first (carried_by c x) out) (record { taken = 0; come = record { at = 0; carried = r } }) x out
   tidied_begins x piece out =
       record {
         stands = record { tidy = tidied_tidy; within = omega arith; fits = omega arith };
@@ -88,9 +88,9 @@ module _ (c : Carried) {r : Carried} (tidied : r ≡ kept (carried_by c [])) whe
 
 -- at the end of the piece, or of the room
 pub goes_end : {piece : List ℕ} {g : Going} (f : Feeding) {x : Image} (out : List ℕ) → Goes piece g f x out
-    → (ltb f.taken (length piece) && leb longest_line (length out - f.at)) ≡ false → standing f x out ≡ going g (drop g.taken piece)
+    → (ltb f.taken (length piece) && leb longest_line (length out - f.come.at)) ≡ false → standing f x out ≡ going g (drop g.taken piece)
 unfolding going
 goes_end {piece} {g} f {x} out w e = split (ltb f.taken (length piece))
-    (λ t. let n : leb longest_line (length out - f.at) ≡ false = sym (pick_true _ _ t) ∙ sym (and_pick (ltb f.taken (length piece)) (leb longest_line (length out - f.at))) ∙ e in
-    sym (going-none (standing f x out) (drop f.taken piece) (omega (arith, leb-false longest_line (length out - f.at) n, w.stands.fits))) ∙ w.same)
+    (λ t. let n : leb longest_line (length out - f.come.at) ≡ false = sym (pick_true _ _ t) ∙ sym (and_pick (ltb f.taken (length piece)) (leb longest_line (length out - f.come.at))) ∙ e in
+    sym (going-none (standing f x out) (drop f.taken piece) (omega (arith, leb-false longest_line (length out - f.come.at) n, w.stands.fits))) ∙ w.same)
     (λ t. ap (going (standing f x out)) (sym (drop_of_length-le piece (ltb-false f.taken (length piece) t))) ∙ w.same)

@@ -2,10 +2,10 @@
 #![tactic(auto)]
 
 ghost use Rattle.std.specs.Prelude.{◌≡◌, ◌≤◌, ◌<◌, length, IfOk};
-ghost use Rattle.model.specs.Map.{image_length};
 ghost use Rattle.night_text.specs.Buffer.{longest_line};
 ghost use Rattle.pieces.specs.Feeding.{feed_left, end_left};
 
+use model::image::Image;
 use pieces::Fed;
 use pieces_carried::Carried;
 use std::io;
@@ -13,12 +13,12 @@ use std::io;
 // One feed, and its lines. It takes a byte at least. Where the write fails the feed itself was done.
 fn print_feed(
     rt: &impl Print,
-    image: &mut [u8],
+    image: &mut Image,
     carried: Carried,
     piece: &[u8],
     out: &mut [u8],
 ) -> io::Result<Fed>
-    requires { (length image.old ≡ image_length) × (longest_line ≤ length out.old) × (0 < length piece.now) }
+    requires { (longest_line ≤ length out.old) × (0 < length piece.now) }
     ensures fed { IfOk result (λ fed. (0 < fed.taken) × (fed.taken ≤ length piece.now)) }
     ensures image { image.new ≡ (feed_left carried image.old piece.now out.old).image }
     ensures out { out.new ≡ (feed_left carried image.old piece.now out.old).out }
@@ -31,12 +31,12 @@ fn print_feed(
 // A piece's lines. Whenever the output is full it is written, and the rest of the piece fed.
 pub fn print_piece(
     rt: &impl Print,
-    image: &mut [u8],
+    image: &mut Image,
     carried: Carried,
     piece: &[u8],
     out: &mut [u8],
 ) -> io::Result<Carried>
-    requires { (length image.old ≡ image_length) × (longest_line ≤ length out.old) }
+    requires { longest_line ≤ length out.old }
 {
     let mut carried = carried;
     let mut from = 0;

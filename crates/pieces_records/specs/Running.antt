@@ -50,4 +50,4 @@ runs e (suc n) r bytes = pick (can_play e r bytes) (runs e n (after_record e r b
 
 -- where the code stands, with the image and the output that are lent
 abbrev pub running : Played → Image → List ℕ → Running
-running p x out = record { taken = p.taken; next = p.next; printed = p.at; state = state_with x p.working; out = out }
+running p x out = record { taken = p.taken; next = p.next; printed = p.reached.at; state = state_with x p.reached.working; out = out }

@@ -1,11 +1,11 @@
 // The module event, which moves the module one state on.
 #![tactic(auto)]
 
-ghost use Rattle.std.specs.Prelude.{◌≡◌, length};
-ghost use Rattle.model.specs.Map.{image_length};
+ghost use Rattle.std.specs.Prelude.{◌≡◌};
 ghost use Rattle.model.specs.Power.{next_module_state, is_flagged, module_entered_image, module_moved_image, module_image};
 
 use bits::Place;
+use model::image::Image;
 use model::power::ModuleState;
 
 // The state that follows, by LowPwrS and by whether every lane is DPDeactivated.
@@ -47,11 +47,10 @@ fn is_flagged(to: ModuleState, low: bool) -> bool
 }
 
 // The module enters a state.
-fn enter(image: &mut [u8], to: ModuleState, low: bool)
-    requires { length image.old ≡ image_length }
+fn enter(image: &mut Image, to: ModuleState, low: bool)
     ensures { image.new ≡ module_entered_image to low image.old }
 {
-    bits::put(image, power_signals::STATE, to.code());
+    bits::put(image, power_signals::STATE, u8::from(to));
     if is_flagged(to, low) {
         bits::put(
             image,
@@ -66,18 +65,16 @@ fn enter(image: &mut [u8], to: ModuleState, low: bool)
 }
 
 // A module that stays enters nothing.
-fn move_to(image: &mut [u8], from: ModuleState, to: ModuleState, low: bool)
-    requires { length image.old ≡ image_length }
+fn move_to(image: &mut Image, from: ModuleState, to: ModuleState, low: bool)
     ensures { image.new ≡ module_moved_image from to low image.old }
 {
-    if from.code() != to.code() {
+    if from != to {
         enter(image, to, low);
     }
 }
 
 // The module event, beside the low-power line.
-pub fn move_module(image: &mut [u8], line: bool)
-    requires { length image.old ≡ image_length }
+pub fn move_module(image: &mut Image, line: bool)
     ensures { image.new ≡ module_image line image.old }
 {
     let from = power_signals::shown_state(image);

@@ -1,11 +1,11 @@
 // What the module's power asks of it: LowPwrS, whether every lane is DPDeactivated, and whether every path is held down.
 #![tactic(auto)]
 
-ghost use Rattle.std.specs.Prelude.{◌≡◌, length};
-ghost use Rattle.model.specs.Map.{image_length};
+ghost use Rattle.std.specs.Prelude.{◌≡◌};
 ghost use Rattle.model.specs.Power.{shown_module_state, is_low_power, is_dark, holds_down};
 
 use bits::Place;
+use model::image::Image;
 use model::path::PathState;
 use model::power::ModuleState;
 
@@ -22,16 +22,14 @@ pub const STATE: Place = Place {
 };
 
 // The state that lower 3 shows.
-pub fn shown_state(image: &[u8]) -> ModuleState
-    requires { length image.now ≡ image_length }
+pub fn shown_state(image: &Image) -> ModuleState
     ensures { result ≡ shown_module_state image.now }
 {
-    ModuleState::of(bits::get(image, STATE))
+    ModuleState::from(bits::get(image, STATE))
 }
 
 // LowPwrS: the host asks for low power, or allows the low-power line to ask and the line is on.
-pub fn is_low_power(image: &[u8], line: bool) -> bool
-    requires { length image.now ≡ image_length }
+pub fn is_low_power(image: &Image, line: bool) -> bool
     ensures { result ≡ is_low_power line image.now }
 {
     let controls = image[map::MODULE_CONTROLS];
@@ -41,18 +39,15 @@ pub fn is_low_power(image: &[u8], line: bool) -> bool
 }
 
 // Whether every lane is DPDeactivated.
-pub fn is_dark(image: &[u8]) -> bool
-    requires { length image.now ≡ image_length }
+pub fn is_dark(image: &Image) -> bool
     ensures { result ≡ is_dark image.now }
 {
     view_paths::lanes_in_state(image, PathState::DEACTIVATED) == bits_sets::ALL
 }
 
 // Whether the module holds every path down: it is not in ModuleReady, or it is to be in low power.
-pub fn holds_down(image: &[u8], line: bool) -> bool
-    requires { length image.now ≡ image_length }
+pub fn holds_down(image: &Image, line: bool) -> bool
     ensures { result ≡ holds_down line image.now }
 {
-    let ready = shown_state(image).code() == ModuleState::READY;
-    !ready | is_low_power(image, line)
+    (shown_state(image) != ModuleState::Ready) | is_low_power(image, line)
 }

@@ -2,22 +2,21 @@
 #![tactic(auto)]
 
 ghost use Rattle.std.specs.Prelude.{◌≡◌, ◌<◌};
+ghost use Rattle.bits.specs.Choice.{both};
 ghost use Rattle.bits.specs.Sets.{has, mask_of, lane_count};
 ghost use Rattle.model.specs.Map.{lasting_count};
 ghost use Rattle.model.specs.Records.{stage_at, on_at, is_in_progress, is_pass, is_passing, held_in, with_line, with_stage, with_verdict, freed_working, advanced_working};
+ghost use Rattle.model.specs.View.{is_used};
 ghost use Rattle.model.specs.Work.{is_release};
 
-use model::lane::{LaneRecord, Progress, Settings, Stage, Verdict, Working};
+use model::lane::{LaneRecord, Progress, Settings, Verdict, Working};
 
-// The stage of a lane.
-pub fn stage_at(w: Working, lane: u8) -> Stage
+// The Apply under way on a lane, if there is one.
+pub fn stage_at(w: Working, lane: u8) -> Option<Progress>
     requires { lane < lane_count }
     ensures { result ≡ stage_at w lane }
 {
-    let i = lane as usize;
-    let record = w.lanes[i];
-    let stage = record.stage;
-    stage
+    w.lanes[lane as usize].stage
 }
 
 // The flags of a lane that are on, a bit for each.
@@ -25,8 +24,7 @@ pub fn on_at(w: Working, lane: u8) -> u16
     requires { lane < lane_count }
     ensures { result ≡ on_at w lane }
 {
-    let i = lane as usize;
-    w.lanes[i].on
+    w.lanes[lane as usize].on
 }
 
 // Whether a flag is among those that are on.
@@ -38,21 +36,17 @@ pub fn is_on(on: u16, flag: u8) -> bool
 }
 
 // Whether an Apply is under way.
-pub fn is_in_progress(stage: Stage) -> bool
+pub fn is_in_progress(stage: Option<Progress>) -> bool
     ensures { result ≡ is_in_progress stage }
 {
-    match stage {
-        Stage::Idle => false,
-        Stage::InProgress(_) => true,
-    }
+    stage.is_some()
 }
 
 // Whether the Apply of a record is under way.
 fn is_record_busy(r: LaneRecord) -> bool
     ensures { result ≡ is_in_progress r.stage }
 {
-    let stage = r.stage;
-    is_in_progress(stage)
+    is_in_progress(r.stage)
 }
 
 // Whether a lane is in progress. Each lane has an arm of its own: an index that is not a constant would lay all records out in memory.
@@ -94,24 +88,21 @@ fn is_pass(verdict: Verdict) -> bool
 }
 
 // Whether the lane belongs to a passing group.
-pub fn is_passing(stage: Stage) -> bool
+pub fn is_passing(stage: Option<Progress>) -> bool
     ensures { result ≡ is_passing stage }
 {
     match stage {
-        Stage::Idle => false,
-        Stage::InProgress(p) => {
-            let verdict = p.verdict;
-            is_pass(verdict)
-        }
+        None => false,
+        Some(p) => is_pass(p.verdict),
     }
 }
 
 // The settings that a stage holds; an idle one holds zeros.
-fn held_in(stage: Stage) -> Settings
+fn held_in(stage: Option<Progress>) -> Settings
     ensures { result ≡ held_in stage }
 {
     match stage {
-        Stage::Idle => Settings {
+        None => Settings {
             config: 0,
             adaptive: 0,
             equalizer: 0,
@@ -121,10 +112,7 @@ fn held_in(stage: Stage) -> Settings
             post: 0,
             amplitude: 0,
         },
-        Stage::InProgress(p) => {
-            let held = p.held;
-            held
-        }
+        Some(p) => p.held,
     }
 }
 
@@ -136,43 +124,35 @@ pub fn held_at(w: Working, lane: u8) -> Settings
     held_in(stage_at(w, lane))
 }
 
+// Whether a lane is one of the group and holds an AppSel.
+fn holds_app(w: Working, group: u8, lane: u8) -> bool
+    requires { lane < lane_count }
+    ensures { result ≡ both (has group lane) (is_used (held_in (stage_at w lane))) }
+{
+    bits_sets::is_in(group, lane) & view_settings::is_used(held_at(w, lane))
+}
+
 // A release: no lane of the group holds an AppSel.
 pub fn is_release(w: Working, group: u8) -> bool
     ensures { result ≡ is_release w group }
 {
-    let mut used = false;
-    for lane in 0..LaneRecord::COUNT {
-        let held = held_at(w, lane);
-        used = used | (bits_sets::is_in(group, lane) & view_settings::is_used(held));
-    }
-    !used
+    !(0..LaneRecord::COUNT).any(|lane| holds_app(w, group, lane))
 }
 
 // The record with another stage, and nothing else of it changed: the one place that replaces a stage.
-pub fn with_stage(r: LaneRecord, stage: Stage) -> LaneRecord
+pub fn with_stage(r: LaneRecord, stage: Option<Progress>) -> LaneRecord
     ensures { result ≡ with_stage r stage }
 {
-    LaneRecord { stage, on: r.on }
+    LaneRecord { stage, ..r }
 }
 
 // The stage with another verdict; an idle one stays.
-fn with_verdict(stage: Stage, verdict: Verdict) -> Stage
+fn with_verdict(stage: Option<Progress>, verdict: Verdict) -> Option<Progress>
     ensures { result ≡ with_verdict stage verdict }
 {
     match stage {
-        Stage::Idle => stage,
-        Stage::InProgress(p) => {
-            let held = p.held;
-            let trigger = p.trigger;
-            let set = p.set;
-            Stage::InProgress(Progress {
-                group: p.group,
-                held,
-                trigger,
-                set,
-                verdict,
-            })
-        }
+        None => None,
+        Some(p) => Some(Progress { verdict, ..p }),
     }
 }
 
@@ -181,12 +161,9 @@ pub fn freed(w: Working, group: u8) -> Working
     ensures { result ≡ freed_working w group }
 {
     let mut next = w;
-    for lane in 0..LaneRecord::COUNT {
-        if bits_sets::is_in(group, lane) {
-            let i = lane as usize;
-            let own = next.lanes[i];
-            let idle = with_stage(own, Stage::Idle);
-            next.lanes[i] = idle;
+    for (lane, own) in next.lanes.iter_mut().enumerate() {
+        if bits_sets::is_in(group, lane as u8) {
+            *own = with_stage(*own, None);
         }
     }
     next
@@ -197,13 +174,9 @@ pub fn advanced(w: Working, group: u8, n: u8) -> Working
     ensures { result ≡ advanced_working w group n }
 {
     let mut next = w;
-    for lane in 0..LaneRecord::COUNT {
-        if bits_sets::is_in(group, lane) {
-            let i = lane as usize;
-            let own = next.lanes[i];
-            let stage = own.stage;
-            let after = with_stage(own, with_verdict(stage, Verdict::Pass(n)));
-            next.lanes[i] = after;
+    for (lane, record) in next.lanes.iter_mut().enumerate() {
+        if bits_sets::is_in(group, lane as u8) {
+            *record = with_stage(*record, with_verdict(record.stage, Verdict::Pass(n)));
         }
     }
     next
@@ -213,6 +186,5 @@ pub fn advanced(w: Working, group: u8, n: u8) -> Working
 pub fn with_line(w: Working, on: bool) -> Working
     ensures { result ≡ with_line w on }
 {
-    let lanes = w.lanes;
-    Working { lanes, line: on }
+    Working { line: on, ..w }
 }

@@ -1,16 +1,14 @@
 -- The refusals of an entry from the code's tests. Assumes nothing.
 use mathlib.Core.Path.{◌≡◌, ap, sym, ◌∙◌}
 use mathlib.Core.Bool.{true, false, not}
-use Prim.Native.Nat.{ℕ}
 use lib.ListN.{length}
-use borrow.Author.Tests.{eqb-true, eq-eqb, ne_eqb, not-false}
+use borrow.Author.Tests.{eqb-true, eq-eqb, not-false}
 use Rattle.model.specs.Map.{image_length}
 use Rattle.bits.proofs.Tests.{split, clash}
-use Rattle.model.specs.Answers.{number, is_done}
+use Rattle.model.specs.Answers.{is_done}
 use Rattle.model.specs.State.{State}
 use Rattle.model.specs.Sound.{is_sound}
 use Rattle.model.specs.Refusals.{first_of, is_flat, wrong_length, image_refusals, entry_refusals}
-use Rattle.model.specs.declared.answer.Answer.{Answer}
 use Rattle.model.specs.declared.answer.Answer.TheVariants.{Done, WrongLength, FlatMemory, Unsound}
 use Rattle.model.proofs.Refused.{first_here, first_next, first_none}
 use Rattle.start_image.proofs.Refusing.{has-length, other_length_lem}
@@ -39,12 +37,3 @@ module _ (s : State) where
   entered_length d = split (wrong_length s.image)
       (λ h. absurd (clash d (rw (← entry_length (λ e. clash h (ap not (eq-eqb _ _ e)))))))
       (λ h. eqb-true _ _ (not-false _ h))
-
--- an answer's number says whether it is a refusal
-pub not_done : (a b : Answer) (n : ℕ) → a ≡ b → n ≡ number a → (n ≡ 0 → ⊥) → is_done b ≡ false
-unfolding is_done
-not_done a b n e p h = rw (← e, ← p) (ne_eqb n 0 h)
-
-pub is_done_lem : (a b : Answer) (n : ℕ) → a ≡ b → n ≡ number a → n ≡ 0 → is_done b ≡ true
-unfolding is_done
-is_done_lem a b n e p h = rw (← e, ← p) (eq-eqb n 0 h)

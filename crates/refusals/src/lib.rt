@@ -12,9 +12,9 @@ use model::lane::Working;
 pub fn refusal(image: &[u8], w: Working) -> Answer
     ensures { result ≡ first_of (entry_refusals (state_with image.now w)) }
 {
-    if image.len() != map::IMAGE_LENGTH {
+    let Some(image) = image.as_array() else {
         return Answer::WrongLength;
-    }
+    };
     if start_image::is_flat(image) {
         return Answer::FlatMemory;
     }

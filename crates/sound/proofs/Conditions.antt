@@ -1,4 +1,5 @@
 -- The conditions of soundness as the code asks them of one lane. Assumes nothing.
+use Rattle.std.proofs.Common.{Option}
 use mathlib.Core.Path.{◌≡◌, refl, sym, ap, ◌∙◌, ap₂}
 use mathlib.Core.Bool.{Bool, true, false, not, ◌&&◌, ◌||◌}
 use lib.Dec.{eqb, leb, ltb}
@@ -18,7 +19,7 @@ use Rattle.model.specs.Map as map
 use Rattle.model.specs.Records.{stage_at, on_at, idle_working, is_passing}
 use Rattle.model.specs.declared.lane.Working.{Working}
 use Rattle.view_paths.proofs.Lanes.{state_at_lem}
-use Rattle.model.specs.declared.lane.Stage.{Stage}
+use Rattle.model.specs.declared.lane.Progress.{Progress}
 use Rattle.sound_paths.proofs.Wholes.{path_of-mask}
 use Rattle.sound_passing.proofs.Choices.{four_by}
 
@@ -76,7 +77,7 @@ unfolding outside_passing view_of
 outside_unused x l r t q = q ∙ case_false (is_used (of (settings_of active_set x) l)) _ _ t
 
 -- (a) to (e) of one lane
-pub lane-sound_by : (x : Image) (w : Working) (l : ℕ) (s : Stage) (a b p o g : Bool) → s ≡ stage_at w l → a ≡ status_tells x w l → b ≡ stage_fits w l s
+pub lane-sound_by : (x : Image) (w : Working) (l : ℕ) (s : Option Progress) (a b p o g : Bool) → s ≡ stage_at w l → a ≡ status_tells x w l → b ≡ stage_fits w l s
     → p ≡ is_passing s → o ≡ outside_passing x (view_of staged_set0 x) idle_working l → g ≡ group_fits (view_of staged_set0 x) w s
     → ((a && b) && ((p || o) && g)) ≡ lane_sound x (view_of staged_set0 x) w l
 unfolding lane_sound outside_passing

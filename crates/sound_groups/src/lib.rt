@@ -2,114 +2,40 @@
 #![tactic(auto)]
 
 ghost use Rattle.std.specs.Prelude.{◌≡◌, ◌<◌, ltb};
-ghost use Rattle.bits.specs.Choice.{both};
+ghost use Rattle.bits.specs.Choice.{both, implies};
 ghost use Rattle.bits.specs.Sets.{has, lane_count, every_in};
 ghost use Rattle.model.specs.Records.{stage_at};
-ghost use Rattle.model.specs.Sound.{same_trigger, same_set, same_verdict, agrees, settings_fit, verdict_fits, stage_fits};
-ghost use Rattle.model.specs.declared.lane.Trigger.TheVariants.{DpInit};
-ghost use Rattle.model.specs.declared.lane.StagedSet.TheVariants.{Set0};
-ghost use Rattle.model.specs.declared.lane.Verdict.TheVariants.{Pass, Reject};
+ghost use Rattle.model.specs.Sound.{agrees, settings_fit, verdict_fits, stage_fits};
 
-use model::lane::{LaneRecord, Progress, Settings, Stage, StagedSet, Trigger, Verdict, Working};
+use model::lane::{LaneRecord, Progress, Settings, Verdict, Working};
 use model::status::Status;
 
-// Whether a trigger is ApplyDPInit.
-fn is_init(trigger: Trigger) -> bool
-    ensures { result ≡ same_trigger DpInit trigger }
-{
-    match trigger {
-        Trigger::DpInit => true,
-        Trigger::Immediate => false,
-    }
-}
-
-fn same_trigger(a: Trigger, b: Trigger) -> bool
-    ensures { result ≡ same_trigger a b }
-{
-    match a {
-        Trigger::DpInit => is_init(b),
-        Trigger::Immediate => !is_init(b),
-    }
-}
-
-// Whether a staged set is set 0.
-fn is_set_0(set: StagedSet) -> bool
-    ensures { result ≡ same_set Set0 set }
-{
-    match set {
-        StagedSet::Set0 => true,
-        StagedSet::Set1 => false,
-    }
-}
-
-fn same_set(a: StagedSet, b: StagedSet) -> bool
-    ensures { result ≡ same_set a b }
-{
-    match a {
-        StagedSet::Set0 => is_set_0(b),
-        StagedSet::Set1 => !is_set_0(b),
-    }
-}
-
-// Whether a verdict is a pass whose next lane is n.
-fn passes_at(verdict: Verdict, n: u8) -> bool
-    ensures { result ≡ same_verdict (Pass n) verdict }
-{
-    match verdict {
-        Verdict::Pass(m) => n == m,
-        Verdict::Reject(_) => false,
-    }
-}
-
-// Whether a verdict is a rejection with a code.
-fn rejects_with(verdict: Verdict, code: u8) -> bool
-    ensures { result ≡ same_verdict (Reject code) verdict }
-{
-    match verdict {
-        Verdict::Pass(_) => false,
-        Verdict::Reject(other) => code == other,
-    }
-}
-
-fn same_verdict(a: Verdict, b: Verdict) -> bool
-    ensures { result ≡ same_verdict a b }
-{
-    match a {
-        Verdict::Pass(n) => passes_at(b, n),
-        Verdict::Reject(code) => rejects_with(b, code),
-    }
-}
-
 // Whether a stage is in progress with the same group, trigger, staged set, verdict and next lane.
-fn agrees(p: Progress, stage: Stage) -> bool
+fn agrees(p: Progress, stage: Option<Progress>) -> bool
     ensures { result ≡ agrees p stage }
 {
     match stage {
-        Stage::Idle => false,
-        Stage::InProgress(q) => {
-            let trigger = p.trigger;
-            let set = p.set;
-            let verdict = p.verdict;
-            let other_trigger = q.trigger;
-            let other_set = q.set;
-            let other_verdict = q.verdict;
+        None => false,
+        Some(q) => {
             (p.group == q.group)
-                & (same_trigger(trigger, other_trigger)
-                    & (same_set(set, other_set) & same_verdict(verdict, other_verdict)))
+                & ((p.trigger == q.trigger) & ((p.set == q.set) & (p.verdict == q.verdict)))
         }
     }
+}
+
+// Whether a lane agrees, where it is one of the group.
+fn agrees_if_in(w: Working, p: Progress, lane: u8) -> bool
+    requires { lane < lane_count }
+    ensures { result ≡ implies (has p.group lane) (agrees p (stage_at w lane)) }
+{
+    !bits_sets::is_in(p.group, lane) | agrees(p, records::stage_at(w, lane))
 }
 
 // Whether every lane of the group agrees.
 fn all_agree(w: Working, p: Progress) -> bool
     ensures { result ≡ every_in p.group (λ m. agrees p (stage_at w m)) }
 {
-    let mut all = true;
-    for lane in 0..LaneRecord::COUNT {
-        let agreed = agrees(p, records::stage_at(w, lane));
-        all = all & (!bits_sets::is_in(p.group, lane) | agreed);
-    }
-    all
+    (0..LaneRecord::COUNT).all(|lane| agrees_if_in(w, p, lane))
 }
 
 // Whether held values fit their fields: bits and nibbles; DPConfig is a byte.
@@ -147,17 +73,15 @@ fn verdict_fits(group: u8, verdict: Verdict) -> bool
 }
 
 // Condition (b) of soundness: the lane is of its group, whose lanes agree, and what its record holds is possible.
-pub fn stage_fits(w: Working, lane: u8, stage: Stage) -> bool
+pub fn stage_fits(w: Working, lane: u8, stage: Option<Progress>) -> bool
     requires { lane < lane_count }
     ensures { result ≡ stage_fits w lane stage }
 {
     match stage {
-        Stage::Idle => true,
-        Stage::InProgress(p) => {
-            let held = p.held;
-            let verdict = p.verdict;
+        None => true,
+        Some(p) => {
             (bits_sets::is_in(p.group, lane) & all_agree(w, p))
-                & (settings_fit(held) & verdict_fits(p.group, verdict))
+                & (settings_fit(p.held) & verdict_fits(p.group, p.verdict))
         }
     }
 }

@@ -2,6 +2,7 @@
 use mathlib.Core.Path.{◌≡◌, refl, ap, ◌∙◌}
 use mathlib.Core.Bool.{Bool, true, false, ◌&&◌}
 use lib.Dec.{eqb}
+use Rattle.std.proofs.Math.Bool.{and_assoc}
 use Rattle.bits.specs.Choice.{both}
 use Rattle.bits.specs.Loop.{all_below}
 use Rattle.bits.proofs.Tests.{and_both, and_seven}
@@ -28,12 +29,12 @@ and_eight : (a b c d e f g h : Bool)
     → (((((((a && b) && c) && d) && e) && f) && g) && h) ≡ both (both (both (both (both (both (both a b) c) d) e) f) g) h
 and_eight a b c d e f g h = and_both ((((((a && b) && c) && d) && e) && f) && g) h ∙ ap (λ t. both t h) (and_seven a b c d e f g)
 
--- settings compared one by one
+-- settings compared one by one, as the derived `==` does
 pub settings_by : (h k : Settings)
-    → (((((((eqb h.config k.config && eqb h.adaptive k.adaptive) && eqb h.equalizer k.equalizer) && eqb h.cdr_tx k.cdr_tx)
-    && eqb h.cdr_rx k.cdr_rx) && eqb h.pre k.pre) && eqb h.post k.post) && eqb h.amplitude k.amplitude) ≡ same_settings h k
+    → (eqb h.config k.config && (eqb h.adaptive k.adaptive && (eqb h.equalizer k.equalizer && (eqb h.cdr_tx k.cdr_tx
+    && (eqb h.cdr_rx k.cdr_rx && (eqb h.pre k.pre && (eqb h.post k.post && eqb h.amplitude k.amplitude))))))) ≡ same_settings h k
 unfolding same_settings setting_values all_below both
-settings_by h k =
+settings_by h k = simp and_assoc at (
     and_eight
     (eqb h.config k.config)
     (eqb h.adaptive k.adaptive)
@@ -42,4 +43,4 @@ settings_by h k =
     (eqb h.cdr_rx k.cdr_rx)
     (eqb h.pre k.pre)
     (eqb h.post k.post)
-    (eqb h.amplitude k.amplitude)
+    (eqb h.amplitude k.amplitude))

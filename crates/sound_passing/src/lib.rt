@@ -1,21 +1,22 @@
 // Condition (e) of soundness: a passing group, its purpose, its state, the lanes it has copied and those that are left.
 #![tactic(auto)]
 
-ghost use Rattle.std.specs.Prelude.{◌≡◌, ◌<◌, length};
-ghost use Rattle.bits.specs.Sets.{mask_of, some_in, lane_count};
-ghost use Rattle.model.specs.Map.{active_set, staged_set0, image_length};
+ghost use Rattle.std.specs.Prelude.{◌≡◌, ◌<◌, ltb};
+ghost use Rattle.bits.specs.Choice.{implies};
+ghost use Rattle.bits.specs.Sets.{has, mask_of, some_in, lane_count};
+ghost use Rattle.model.specs.Map.{active_set, staged_set0};
 ghost use Rattle.model.specs.Records.{stage_at, held_in};
 ghost use Rattle.model.specs.View.{view_of, settings_at, settings_of, of, is_used};
 ghost use Rattle.model.specs.Work.{written_settings};
 ghost use Rattle.model.specs.Sound.{has_purpose, rests, same_settings, holds_copied, not_copied, rest_is_whole, passing_fits, group_fits};
 
 use map::ACTIVE_SET;
-use model::lane::{LaneRecord, Settings, Stage, Verdict, Working};
+use model::image::Image;
+use model::lane::{LaneRecord, Progress, Verdict, Working};
 use model::path::PathState;
 
 // (e) a passing group is a release, or its held settings make a whole path of exactly its lanes.
-fn has_purpose(image: &[u8], w: Working, group: u8) -> bool
-    requires { length image.now ≡ image_length }
+fn has_purpose(image: &Image, w: Working, group: u8) -> bool
     ensures { result ≡ has_purpose (view_of staged_set0 image.now) w group }
 {
     if records::is_release(w, group) {
@@ -26,8 +27,7 @@ fn has_purpose(image: &[u8], w: Working, group: u8) -> bool
 }
 
 // Its lanes agree on state 1, 4 or 7, on 1 for a release; an empty group has no state.
-fn rests(image: &[u8], w: Working, group: u8) -> bool
-    requires { length image.now ≡ image_length }
+fn rests(image: &Image, w: Working, group: u8) -> bool
     ensures { result ≡ rests (view_of staged_set0 image.now) w group }
 {
     let first = bits_sets::next_in(group, 0);
@@ -35,46 +35,35 @@ fn rests(image: &[u8], w: Working, group: u8) -> bool
         return false;
     }
     let state = bits_lanes::nibble(image, map::STATES, first);
-    let resting = view_paths::is_resting(PathState::of(state));
+    let resting = view_paths::is_resting(PathState::from(state));
     let released = !records::is_release(w, group) | (state == PathState::DEACTIVATED);
     sound_paths::agree_on_state(image, group, first) & (resting & released)
 }
 
-// Whether two lanes' settings are the same, one by one.
-fn same_settings(h: Settings, k: Settings) -> bool
-    ensures { result ≡ same_settings h k }
-{
-    (h.config == k.config)
-        & (h.adaptive == k.adaptive)
-        & (h.equalizer == k.equalizer)
-        & (h.cdr_tx == k.cdr_tx)
-        & (h.cdr_rx == k.cdr_rx)
-        & (h.pre == k.pre)
-        & (h.post == k.post)
-        & (h.amplitude == k.amplitude)
-}
-
 // Whether a lane's active settings are what the copying writes.
-fn is_copied(image: &[u8], w: Working, lane: u8) -> bool
-    requires { (length image.now ≡ image_length) × (lane < lane_count) }
+fn is_copied(image: &Image, w: Working, lane: u8) -> bool
+    requires { lane < lane_count }
     ensures { result ≡ same_settings (settings_at active_set image.now lane) (written_settings (held_in (stage_at w lane))) }
 {
     let active = view_settings::settings_at(image, ACTIVE_SET, lane);
     let held = records::held_at(w, lane);
-    same_settings(active, view_settings::written(held))
+    active == view_settings::written(held)
+}
+
+// Whether a lane holds what the copying writes, where it is one of the group before the next one.
+fn is_copied_if_before(image: &Image, w: Working, group: u8, n: u8, lane: u8) -> bool
+    requires { lane < lane_count }
+    ensures { result ≡ implies (has group lane) (implies (ltb lane n) (same_settings (settings_at active_set image.now lane) (written_settings (held_in (stage_at w lane))))) }
+{
+    let copied = is_copied(image, w, lane);
+    !bits_sets::is_in(group, lane) | (!(lane < n) | copied)
 }
 
 // Its lanes before the next one hold what the copying writes.
-fn holds_copied(image: &[u8], w: Working, group: u8, n: u8) -> bool
-    requires { length image.now ≡ image_length }
+fn holds_copied(image: &Image, w: Working, group: u8, n: u8) -> bool
     ensures { result ≡ holds_copied (view_of staged_set0 image.now) w group n }
 {
-    let mut all = true;
-    for lane in 0..LaneRecord::COUNT {
-        let copied = is_copied(image, w, lane);
-        all = all & (!bits_sets::is_in(group, lane) | (!(lane < n) | copied));
-    }
-    all
+    (0..LaneRecord::COUNT).all(|lane| is_copied_if_before(image, w, group, n, lane))
 }
 
 // The lanes of a group from the next one on.
@@ -85,16 +74,14 @@ fn not_copied(group: u8, n: u8) -> u8
 }
 
 // Whether a lane of a set is used.
-fn some_used(image: &[u8], set: u8) -> bool
-    requires { length image.now ≡ image_length }
+fn some_used(image: &Image, set: u8) -> bool
     ensures { result ≡ some_in set (λ m. is_used (of (settings_of active_set image.now) m)) }
 {
     bits_sets::meets(set, view_paths::used_lanes(image, ACTIVE_SET))
 }
 
 // The rest of its lanes are all unused, or their whole path would be the group.
-fn rest_is_whole(image: &[u8], group: u8, n: u8) -> bool
-    requires { length image.now ≡ image_length }
+fn rest_is_whole(image: &Image, group: u8, n: u8) -> bool
     ensures { result ≡ rest_is_whole (view_of staged_set0 image.now) group n }
 {
     let rest = not_copied(group, n);
@@ -106,8 +93,7 @@ fn rest_is_whole(image: &[u8], group: u8, n: u8) -> bool
 }
 
 // (e) of a group by its verdict.
-fn passing_fits(image: &[u8], w: Working, group: u8, verdict: Verdict) -> bool
-    requires { length image.now ≡ image_length }
+fn passing_fits(image: &Image, w: Working, group: u8, verdict: Verdict) -> bool
     ensures { result ≡ passing_fits (view_of staged_set0 image.now) w group verdict }
 {
     match verdict {
@@ -120,15 +106,11 @@ fn passing_fits(image: &[u8], w: Working, group: u8, verdict: Verdict) -> bool
 }
 
 // (e) of a lane's group.
-pub fn group_fits(image: &[u8], w: Working, stage: Stage) -> bool
-    requires { length image.now ≡ image_length }
+pub fn group_fits(image: &Image, w: Working, stage: Option<Progress>) -> bool
     ensures { result ≡ group_fits (view_of staged_set0 image.now) w stage }
 {
     match stage {
-        Stage::Idle => true,
-        Stage::InProgress(p) => {
-            let verdict = p.verdict;
-            passing_fits(image, w, p.group, verdict)
-        }
+        None => true,
+        Some(p) => passing_fits(image, w, p.group, p.verdict),
     }
 }

@@ -1,4 +1,5 @@
 -- Lanes that share an AppSel and a DataPathID, and the whole path that they make. Assumes nothing.
+use Rattle.std.proofs.Common.{Option}
 use mathlib.Core.Path.{◌≡◌, ap, ap₂, ◌∙◌}
 use mathlib.Core.Bool.{Bool, not, ◌&&◌}
 use mathlib.Core.List.{List}
@@ -13,7 +14,7 @@ use Rattle.bits.proofs.Tests.{and_both}
 use Rattle.model.specs.Records.{stage_at, held_in}
 use Rattle.model.specs.View.{application_in, of, app_sel, path_id, is_used, fills}
 use Rattle.model.specs.Sound.{share, make_path, held_settings_of}
-use Rattle.model.specs.declared.application.Lookup.{Lookup}
+use Rattle.model.specs.declared.application.Descriptor.{Descriptor}
 use Rattle.model.specs.declared.lane.Settings.{Settings}
 use Rattle.model.specs.declared.lane.Working.{Working}
 use Rattle.sound_paths.proofs.Lanes.{held_of}
@@ -31,13 +32,13 @@ share-held_by w g l a f b p q =
     share_by (held_settings_of w) (has g) l a f _ (rw (held_of w l b) p) (rw (held_of w l b) q) (all_ext lane_count _ _ (λ m d. rw (held_of w m d)))
 
 -- a path made, told from the lane's AppSel and DataPathID
-pub path_by : (apps : List Lookup) (s : List Settings) (c : ℕ → Bool) (l g a f : ℕ) (t u : Bool) → a ≡ app_sel (of s l) → f ≡ path_id (of s l)
+pub path_by : (apps : List (Option Descriptor)) (s : List Settings) (c : ℕ → Bool) (l g a f : ℕ) (t u : Bool) → a ≡ app_sel (of s l) → f ≡ path_id (of s l)
     → t ≡ share s c l → u ≡ fills (application_in apps a) f g → (t && u) ≡ make_path apps s c l g
 unfolding make_path
 path_by apps s c l g a f t u p q e d = and_both t u ∙ ap₂ both e (rw (p, q) at d)
 
 -- the lanes that pass a test, as a set
-pub path_of-mask : (apps : List Lookup) (s : List Settings) (c : ℕ → Bool) (l g : ℕ)
+pub path_of-mask : (apps : List (Option Descriptor)) (s : List Settings) (c : ℕ → Bool) (l g : ℕ)
     → make_path apps s (has (mask_of 8 c)) l g ≡ make_path apps s c l g
 unfolding make_path share
 path_of-mask apps s c l g =

@@ -1,19 +1,22 @@
 // Whole paths: whether lanes share an AppSel and a DataPathID, fill what their descriptor asks, and agree on a state.
 #![tactic(auto)]
 
-ghost use Rattle.std.specs.Prelude.{◌≡◌, ◌<◌, length};
+ghost use Rattle.std.specs.Prelude.{◌≡◌, ◌<◌, eqb};
+ghost use Rattle.bits.specs.Choice.{both, implies};
 ghost use Rattle.bits.specs.Sets.{has, lane_count};
-ghost use Rattle.model.specs.Map.{active_set, image_length};
-ghost use Rattle.model.specs.View.{settings_of, states_of, applications_of, application_in, fills};
+ghost use Rattle.model.specs.Map.{active_set};
+ghost use Rattle.model.specs.Records.{stage_at, held_in};
+ghost use Rattle.model.specs.View.{settings_of, states_of, applications_of, application_in, app_sel, path_id, fills};
 ghost use Rattle.model.specs.Sound.{share, make_path, agree_on_state, held_settings_of};
 
 use map::ACTIVE_SET;
-use model::application::Lookup;
+use model::application::Descriptor;
+use model::image::Image;
 use model::lane::{LaneRecord, Working};
 
 // Whether the lanes of a set share a lane's active AppSel, not 0, and its DataPathID.
-fn share_active(image: &[u8], set: u8, lane: u8) -> bool
-    requires { (length image.now ≡ image_length) × (lane < lane_count) }
+fn share_active(image: &Image, set: u8, lane: u8) -> bool
+    requires { lane < lane_count }
     ensures { result ≡ share (settings_of active_set image.now) (has set) lane }
 {
     let app = view_paths::app_at(image, ACTIVE_SET, lane);
@@ -23,7 +26,17 @@ fn share_active(image: &[u8], set: u8, lane: u8) -> bool
     (app != 0) & bits_sets::lies_in(set, with_app & with_id)
 }
 
-// The same of the settings held.
+// Whether a lane holds settings with an AppSel and a DataPathID, where it is one of the set.
+fn shares_if_in(w: Working, set: u8, app: u8, id: u8, lane: u8) -> bool
+    requires { lane < lane_count }
+    ensures { result ≡ implies (has set lane) (both (eqb (app_sel (held_in (stage_at w lane))) app) (eqb (path_id (held_in (stage_at w lane))) id)) }
+{
+    let held = records::held_at(w, lane);
+    let same = (view_settings::app_sel(held) == app) & (view_settings::path_id(held) == id);
+    !bits_sets::is_in(set, lane) | same
+}
+
+// Whether the lanes of a set share a lane's held AppSel, not 0, and its DataPathID.
 fn share_held(w: Working, set: u8, lane: u8) -> bool
     requires { lane < lane_count }
     ensures { result ≡ share (held_settings_of w) (has set) lane }
@@ -31,23 +44,17 @@ fn share_held(w: Working, set: u8, lane: u8) -> bool
     let own = records::held_at(w, lane);
     let app = view_settings::app_sel(own);
     let id = view_settings::path_id(own);
-    let mut all = true;
-    for other in 0..LaneRecord::COUNT {
-        let held = records::held_at(w, other);
-        let same = (view_settings::app_sel(held) == app) & (view_settings::path_id(held) == id);
-        all = all & (!bits_sets::is_in(set, other) | same);
-    }
-    (app != 0) & all
+    (app != 0) & (0..LaneRecord::COUNT).all(|other| shares_if_in(w, set, app, id, other))
 }
 
 // Whether a set is first .. first + n - 1, for a descriptor of n lanes that allows first.
-fn fills(found: Lookup, first: u8, set: u8) -> bool
+fn fills(found: Option<Descriptor>, first: u8, set: u8) -> bool
     requires { first < lane_count }
     ensures { result ≡ fills found first set }
 {
     match found {
-        Lookup::Missing => false,
-        Lookup::Found(d) => {
+        None => false,
+        Some(d) => {
             let end = (first as u32) + (d.count as u32);
             let all = bits_sets::lanes_from(first, d.count);
             bits_sets::is_in(d.firsts, first) & ((end <= LaneRecord::COUNT as u32) & (set == all))
@@ -56,8 +63,8 @@ fn fills(found: Lookup, first: u8, set: u8) -> bool
 }
 
 // Whether a set is the whole path of an AppSel and a DataPathID.
-fn is_whole(image: &[u8], app: u8, id: u8, set: u8) -> bool
-    requires { (length image.now ≡ image_length) × (app < 16) × (id < 8) }
+fn is_whole(image: &Image, app: u8, id: u8, set: u8) -> bool
+    requires { (app < 16) × (id < 8) }
     ensures { result ≡ fills (application_in (applications_of image.now) app) id set }
 {
     let found = applications::look_up(image, app);
@@ -65,8 +72,8 @@ fn is_whole(image: &[u8], app: u8, id: u8, set: u8) -> bool
 }
 
 // Whether the active settings of a set's lanes make the whole path that is given.
-pub fn active_path(image: &[u8], set: u8, lane: u8, whole: u8) -> bool
-    requires { (length image.now ≡ image_length) × (lane < lane_count) }
+pub fn active_path(image: &Image, set: u8, lane: u8, whole: u8) -> bool
+    requires { lane < lane_count }
     ensures { result ≡ make_path (applications_of image.now) (settings_of active_set image.now) (has set) lane whole }
 {
     let app = view_paths::app_at(image, ACTIVE_SET, lane);
@@ -75,8 +82,8 @@ pub fn active_path(image: &[u8], set: u8, lane: u8, whole: u8) -> bool
 }
 
 // Whether the settings held for a set's lanes make the whole path that is given.
-pub fn held_path(image: &[u8], w: Working, set: u8, lane: u8, whole: u8) -> bool
-    requires { (length image.now ≡ image_length) × (lane < lane_count) }
+pub fn held_path(image: &Image, w: Working, set: u8, lane: u8, whole: u8) -> bool
+    requires { lane < lane_count }
     ensures { result ≡ make_path (applications_of image.now) (held_settings_of w) (has set) lane whole }
 {
     let held = records::held_at(w, lane);
@@ -86,8 +93,8 @@ pub fn held_path(image: &[u8], w: Working, set: u8, lane: u8, whole: u8) -> bool
 }
 
 // Whether the lanes of a set agree on a lane's state.
-pub fn agree_on_state(image: &[u8], set: u8, lane: u8) -> bool
-    requires { (length image.now ≡ image_length) × (lane < lane_count) }
+pub fn agree_on_state(image: &Image, set: u8, lane: u8) -> bool
+    requires { lane < lane_count }
     ensures { result ≡ agree_on_state (states_of image.now) set lane }
 {
     let own = bits_lanes::nibble(image, map::STATES, lane);

@@ -1,17 +1,16 @@
 // Start: the images that it refuses, what stays of one that it takes, and what is set.
 #![tactic(auto)]
 
-ghost use Rattle.std.specs.Prelude.{◌≡◌, length};
+ghost use Rattle.std.specs.Prelude.{◌≡◌};
 ghost use Rattle.model.specs.Refusals.{first_of, is_flat, is_back_to_front, start_refusals};
 ghost use Rattle.model.specs.Start.{start_value, started_state};
-ghost use Rattle.model.specs.Map.{image_length};
 
 use bits::Place;
 use model::answer::Answer;
+use model::image::Image;
 
 // Whether the memory is flat: MemoryModel, lower 2.7.
-pub fn is_flat(image: &[u8]) -> bool
-    requires { length image.now ≡ image_length }
+pub fn is_flat(image: &Image) -> bool
     ensures { result ≡ is_flat image.now }
 {
     let model = Place {
@@ -23,8 +22,7 @@ pub fn is_flat(image: &[u8]) -> bool
 }
 
 // Whether the limits of received power are back to front: one above the next in the order low alarm, low warning, high warning, high alarm.
-fn is_back_to_front(image: &[u8]) -> bool
-    requires { length image.now ≡ image_length }
+fn is_back_to_front(image: &Image) -> bool
     ensures { result ≡ is_back_to_front image.now }
 {
     let low_alarm = bits_words::word2(image, map::LOW_ALARM);
@@ -38,9 +36,9 @@ fn is_back_to_front(image: &[u8]) -> bool
 pub fn refusal(image: &[u8]) -> Answer
     ensures { result ≡ first_of (start_refusals image.now) }
 {
-    if image.len() != map::IMAGE_LENGTH {
+    let Some(image) = image.as_array() else {
         return Answer::WrongLength;
-    }
+    };
     if is_flat(image) {
         return Answer::FlatMemory;
     }
@@ -74,13 +72,12 @@ fn start_value(i: usize) -> u8
 }
 
 // The image that a module starts with.
-pub fn reset(image: &mut [u8])
-    requires { length image.old ≡ image_length }
+pub fn reset(image: &mut Image)
     ensures { image.new ≡ (started_state image.old).image }
 {
-    for i in 0..map::IMAGE_LENGTH {
+    for (i, byte) in image.iter_mut().enumerate() {
         if !map::kept(i) {
-            image[i] = start_value(i);
+            *byte = start_value(i);
         }
     }
 }

@@ -7,21 +7,18 @@ ghost use Rattle.model.specs.State.{state_with};
 ghost use Rattle.model.specs.Outcome.{step_outcome};
 ghost use Rattle.model.specs.Step.{step};
 ghost use Rattle.model.specs.Work.{early};
-ghost use Rattle.model.specs.Map.{image_length};
 
 use contracts::Returned;
 use model::event::{Call, Event};
+use model::image::Image;
 use model::lane::Working;
 
 // Any event; the buffer is what a read fills.
-pub fn step(image: &mut [u8], w: Working, event: Event, buffer: &mut [u8]) -> Returned
-    requires { length image.old ≡ image_length }
+pub fn step(image: &mut Image, w: Working, event: Event, buffer: &mut [u8]) -> Returned
     ensures { IsOutcome (step_outcome (step early (length buffer.old) (state_with image.old w) event) buffer.old) result image.new buffer.new }
 {
-    let call = event.call;
-    let bytes = event.bytes;
-    match call {
-        Call::Write { address, count } => step_host::write(image, w, address, count, bytes),
+    match event.call {
+        Call::Write { address, count } => step_host::write(image, w, address, count, event.bytes),
         Call::Read { address, count } => step_host::read(image, w, address, count, buffer),
         Call::Work { lane } => step_module::work(image, w, lane),
         Call::Hardware { lane } => step_module::hardware(image, w, lane),

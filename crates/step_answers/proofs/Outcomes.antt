@@ -1,4 +1,5 @@
 -- What a step leaves, once its answer is known. Assumes nothing.
+use Rattle.std.proofs.Common.{None, Some, Option}
 use mathlib.Core.Path.{◌≡◌, refl, ap, sym, ◌∙◌}
 use mathlib.Core.Bool.{false}
 use mathlib.Core.List.{List, [], ◌∷◌}
@@ -23,8 +24,7 @@ use Rattle.model.specs.declared.answer.Answer.TheVariants.{Done}
 use Rattle.contracts.specs.declared.Returned.{Returned}
 use Rattle.model.specs.declared.event.Call.{Call}
 use Rattle.model.specs.declared.event.Event.{Event}
-use Rattle.model.specs.declared.lane.Stage.{Stage}
-use Rattle.model.specs.declared.lane.Stage.TheVariants.{Idle, InProgress}
+use Rattle.model.specs.declared.lane.Progress.{Progress}
 use Rattle.model.specs.declared.lane.Trigger.{Trigger}
 use Rattle.model.specs.declared.lane.Verdict.{Verdict}
 use Rattle.model.specs.declared.lane.Working.{Working}
@@ -77,10 +77,10 @@ unfolding work_effect_by closing_effect
 by_reads_nothing (Reject code) s g t = refl
 by_reads_nothing (Pass n) s g t = split (ltb n 8) (λ h. ap (λ (c : Effect). c.bytes) (pick_true _ _ h)) (λ h. ap (λ (c : Effect). c.bytes) (pick-false _ _ h))
 
-on_reads_nothing : (t : Stage) (s : State) → (work_effect_on t early s).bytes ≡ []
+on_reads_nothing : (t : Option Progress) (s : State) → (work_effect_on t early s).bytes ≡ []
 unfolding work_effect_on
-on_reads_nothing Idle s = refl
-on_reads_nothing (InProgress p) s = by_reads_nothing p.verdict s p.group p.trigger
+on_reads_nothing None s = refl
+on_reads_nothing (Some p) s = by_reads_nothing p.verdict s p.group p.trigger
 
 pub work_reads_nothing : (s : State) (l : ℕ) → (work_effect early s l).bytes ≡ []
 unfolding work_effect

@@ -15,18 +15,18 @@ ghost use Rattle.model.specs.Step.{event, step};
 ghost use Rattle.model.specs.Work.{early};
 ghost use Rattle.model.specs.declared.event.Call.TheVariants.{Write, Read};
 ghost use Rattle.contracts.specs.Asked.{asked};
-ghost use Rattle.model.specs.Map.{image_length};
 
 use contracts::Returned;
 use model::answer::Answer;
+use model::image::Image;
 use model::lane::Working;
 
 // The last flag that can last.
 const LAST_LASTING: u8 = map::LATER_LASTING + map::LASTING_COUNT - 1;
 
 // The command that a plain write runs, if it reaches the address that runs one: few do, and the others ask for no page.
-fn end_plain(image: &mut [u8], address: u8, count: usize)
-    requires { (length image.old ≡ image_length) × (address + count ≤ half_end address) }
+fn end_plain(image: &mut Image, address: u8, count: usize)
+    requires { address + count ≤ half_end address }
     ensures { image.new ≡ only_if (runs_command address count image.old) command_image image.old }
 {
     let first = address as usize;
@@ -36,8 +36,8 @@ fn end_plain(image: &mut [u8], address: u8, count: usize)
 }
 
 // A plain write: its bytes, the command that it runs, then lower 3.0.
-fn write_plain(image: &mut [u8], address: u8, bytes: &[u8])
-    requires { (length image.old ≡ image_length) × (address + length bytes.now ≤ half_end address) }
+fn write_plain(image: &mut Image, address: u8, bytes: &[u8])
+    requires { address + length bytes.now ≤ half_end address }
     ensures { image.new ≡ plain_image address bytes.now image.old }
 {
     access_writes::write_plain(image, address, bytes);
@@ -46,8 +46,8 @@ fn write_plain(image: &mut [u8], address: u8, bytes: &[u8])
 }
 
 // A write that is not refused: its bytes, then its end, then lower 3.0.
-fn write_bytes(image: &mut [u8], w: Working, address: u8, bytes: &[u8]) -> Working
-    requires { (length image.old ≡ image_length) × (address + length bytes.now ≤ half_end address) }
+fn write_bytes(image: &mut Image, w: Working, address: u8, bytes: &[u8]) -> Working
+    requires { address + length bytes.now ≤ half_end address }
     ensures { IsState (settled_state (ended_state address bytes.now (length bytes.now) (bytes_written_state address bytes.now (state_with image.old w)))) image.new result }
 {
     if access_writes::is_plain_write(image, address, bytes.len()) {
@@ -61,8 +61,7 @@ fn write_bytes(image: &mut [u8], w: Working, address: u8, bytes: &[u8]) -> Worki
 }
 
 // A host write of count of the bytes that are given.
-pub fn write(image: &mut [u8], w: Working, address: u8, count: u8, bytes: [u8; 8]) -> Returned
-    requires { length image.old ≡ image_length }
+pub fn write(image: &mut Image, w: Working, address: u8, count: u8, bytes: [u8; 8]) -> Returned
     ensures { IsOutcome (step_outcome (step early 0 (state_with image.old w) (event (Write address count) bytes)) []) result image.new [] }
 {
     let n = count as usize;
@@ -74,8 +73,8 @@ pub fn write(image: &mut [u8], w: Working, address: u8, count: u8, bytes: [u8; 8
 }
 
 // Of n bytes read from an address on, the flags that are on show again. A read of other addresses asks for no index.
-fn show_flags(image: &mut [u8], w: Working, address: u8, n: usize)
-    requires { (length image.old ≡ image_length) × (address + n ≤ half_end address) }
+fn show_flags(image: &mut Image, w: Working, address: u8, n: usize)
+    requires { address + n ≤ half_end address }
     ensures { image.new ≡ shown_again_image w (index_of image.old address) n image.old }
 {
     if (address <= LAST_LASTING) & ((map::FIRST_LASTING as usize) < (address as usize) + n) {
@@ -85,8 +84,7 @@ fn show_flags(image: &mut [u8], w: Working, address: u8, n: usize)
 }
 
 // A host read of count bytes into the front of a buffer.
-pub fn read(image: &mut [u8], w: Working, address: u8, count: u8, buffer: &mut [u8]) -> Returned
-    requires { length image.old ≡ image_length }
+pub fn read(image: &mut Image, w: Working, address: u8, count: u8, buffer: &mut [u8]) -> Returned
     ensures { IsOutcome (step_outcome (step early (length buffer.old) (state_with image.old w) (asked (Read address count))) buffer.old) result image.new buffer.new }
 {
     let n = count as usize;

@@ -9,15 +9,14 @@ ghost use Rattle.model.specs.Step.{step};
 ghost use Rattle.model.specs.Work.{early};
 ghost use Rattle.model.specs.declared.event.Call.TheVariants.{Work, Hardware, Condition, Sample, Lasting, Module, Line};
 ghost use Rattle.contracts.specs.Asked.{asked};
-ghost use Rattle.model.specs.Map.{image_length};
 
 use contracts::Returned;
 use model::answer::Answer;
+use model::image::Image;
 use model::lane::{LaneRecord, Working};
 
 // A work step on a lane.
-pub fn work(image: &mut [u8], w: Working, lane: u8) -> Returned
-    requires { length image.old ≡ image_length }
+pub fn work(image: &mut Image, w: Working, lane: u8) -> Returned
     ensures { IsOutcome (step_outcome (step early 0 (state_with image.old w) (asked (Work lane))) []) result image.new [] }
 {
     if LaneRecord::COUNT <= lane {
@@ -27,18 +26,16 @@ pub fn work(image: &mut [u8], w: Working, lane: u8) -> Returned
         return contracts::reply(Answer::NothingOnLane, w);
     }
     let worked = work::work(image, w, lane);
-    let working = worked.working;
     flags_interrupt::settle(image);
     Returned {
         answer: Answer::Done,
         mask: worked.mask,
-        working,
+        working: worked.working,
     }
 }
 
 // A hardware event on the path of a lane. What is cheap is asked first: a lane in progress is busy, an unused one has no path.
-pub fn hardware(image: &mut [u8], w: Working, lane: u8) -> Returned
-    requires { length image.old ≡ image_length }
+pub fn hardware(image: &mut Image, w: Working, lane: u8) -> Returned
     ensures { IsOutcome (step_outcome (step early 0 (state_with image.old w) (asked (Hardware lane))) []) result image.new [] }
 {
     if LaneRecord::COUNT <= lane {
@@ -63,8 +60,7 @@ pub fn hardware(image: &mut [u8], w: Working, lane: u8) -> Returned
 }
 
 // A condition that comes once, and sets bits of a flag byte.
-pub fn condition(image: &mut [u8], w: Working, flag: u8, mask: u8) -> Returned
-    requires { length image.old ≡ image_length }
+pub fn condition(image: &mut Image, w: Working, flag: u8, mask: u8) -> Returned
     ensures { IsOutcome (step_outcome (step early 0 (state_with image.old w) (asked (Condition flag mask))) []) result image.new [] }
 {
     if !flags::is_condition_flag(flag) {
@@ -76,8 +72,7 @@ pub fn condition(image: &mut [u8], w: Working, flag: u8, mask: u8) -> Returned
 }
 
 // A condition that lasts: it begins on some lanes and ends on others.
-pub fn lasting(image: &mut [u8], w: Working, flag: u8, on: u8, off: u8) -> Returned
-    requires { length image.old ≡ image_length }
+pub fn lasting(image: &mut Image, w: Working, flag: u8, on: u8, off: u8) -> Returned
     ensures { IsOutcome (step_outcome (step early 0 (state_with image.old w) (asked (Lasting flag on off))) []) result image.new [] }
 {
     if !flags::is_condition_flag(flag) {
@@ -89,8 +84,7 @@ pub fn lasting(image: &mut [u8], w: Working, flag: u8, on: u8, off: u8) -> Retur
 }
 
 // A sample of a lane's received power.
-pub fn sample(image: &mut [u8], w: Working, lane: u8, power: u16) -> Returned
-    requires { length image.old ≡ image_length }
+pub fn sample(image: &mut Image, w: Working, lane: u8, power: u16) -> Returned
     ensures { IsOutcome (step_outcome (step early 0 (state_with image.old w) (asked (Sample lane power))) []) result image.new [] }
 {
     if LaneRecord::COUNT <= lane {
@@ -102,8 +96,7 @@ pub fn sample(image: &mut [u8], w: Working, lane: u8, power: u16) -> Returned
 }
 
 // The module event: the module moves one state on.
-pub fn move_module(image: &mut [u8], w: Working) -> Returned
-    requires { length image.old ≡ image_length }
+pub fn move_module(image: &mut Image, w: Working) -> Returned
     ensures { IsOutcome (step_outcome (step early 0 (state_with image.old w) (asked Module)) []) result image.new [] }
 {
     power_moves::move_module(image, w.line);
@@ -112,8 +105,7 @@ pub fn move_module(image: &mut [u8], w: Working) -> Returned
 }
 
 // The low-power line is set.
-pub fn set_line(image: &mut [u8], w: Working, on: bool) -> Returned
-    requires { length image.old ≡ image_length }
+pub fn set_line(image: &mut Image, w: Working, on: bool) -> Returned
     ensures { IsOutcome (step_outcome (step early 0 (state_with image.old w) (asked (Line on))) []) result image.new [] }
 {
     let working = records::with_line(w, on);

@@ -3,10 +3,9 @@
 #![tactic(auto)]
 
 ghost use Rattle.std.specs.Prelude.{◌≡◌, ◌≤◌, length};
-ghost use Rattle.model.specs.Map.{image_length};
 ghost use Rattle.night_text.specs.Buffer.{longest_line};
 
-use map::IMAGE_LENGTH;
+use model::image::{IMAGE_LENGTH, Image};
 use pieces_carried::Carried;
 use std::env::{Env, FillError};
 use std::io;
@@ -27,10 +26,10 @@ const DIGITS: usize = 6;
 fn print_pieces(
     rt: &(impl Input + Print),
     piece: &mut [u8],
-    image: &mut [u8],
+    image: &mut Image,
     out: &mut [u8],
 ) -> io::Result<Carried>
-    requires { (length image.old ≡ image_length) × (longest_line ≤ length out.old) }
+    requires { longest_line ≤ length out.old }
 {
     let mut input = rt.reader();
     let mut carried = pieces::begin();
@@ -47,10 +46,10 @@ fn print_pieces(
 fn replay_pieces(
     rt: &(impl Input + Print),
     piece: &mut [u8],
-    image: &mut [u8],
+    image: &mut Image,
     out: &mut [u8],
 ) -> io::Result<()>
-    requires { (length image.old ≡ image_length) × (longest_line ≤ length out.old) }
+    requires { longest_line ≤ length out.old }
 {
     let carried = print_pieces(rt, piece, image, out)?;
     pieces_out::print_end(rt, carried, out)

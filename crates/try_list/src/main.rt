@@ -67,7 +67,7 @@ fn with_room(rt: &impl Print, image: &mut [u8]) -> io::Result<()> {
         digit(answers[3]),
         digit(answers[4]),
         digit(answers[5]),
-        digit(answer.number()),
+        digit(u8::from(answer)),
         10,
     ];
     rt.write_all(&text)
@@ -83,7 +83,7 @@ fn without_room(rt: &impl Print, image: &mut [u8]) -> io::Result<()> {
         digit(answers[0]),
         digit(answers[1]),
         digit(answers[2]),
-        digit(answer.number()),
+        digit(u8::from(answer)),
         10,
     ];
     rt.write_all(&text)
@@ -94,7 +94,7 @@ fn one_call(rt: &impl Print, image: &mut [u8], w: Working, asked: Event) -> io::
     let mut buffer = [0u8; 4];
     let left = registers::call(image, w, asked, &mut buffer);
     let answer = left.answer;
-    let text = [digit(answer.number())];
+    let text = [digit(u8::from(answer))];
     rt.write_all(&text)?;
     let next = left.working;
     Ok(next)

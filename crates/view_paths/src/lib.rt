@@ -4,11 +4,12 @@
 ghost use Rattle.std.specs.Prelude.{◌≡◌, ◌+◌, ◌≤◌, ◌<◌, eqb, length};
 ghost use Rattle.bits.specs.Number.{field};
 ghost use Rattle.bits.specs.Sets.{mask_of, lane_count};
-ghost use Rattle.model.specs.Map.{image_length, active_set};
+ghost use Rattle.model.specs.Map.{active_set};
 ghost use Rattle.model.specs.PathStates.{resting};
 ghost use Rattle.model.specs.View.{app_sel, path_id, of, state_in, is_used, settings_of, states_of, path_of};
 
 use map::ACTIVE_SET;
+use model::image::Image;
 use model::lane::LaneRecord;
 use model::path::PathState;
 
@@ -76,8 +77,7 @@ pub fn used_lanes(image: &[u8], base: usize) -> u8
 }
 
 // The lanes in a state.
-pub fn lanes_in_state(image: &[u8], state: u8) -> u8
-    requires { length image.now ≡ image_length }
+pub fn lanes_in_state(image: &Image, state: u8) -> u8
     ensures { result ≡ mask_of lane_count (λ m. eqb (state_in (states_of image.now) m) state) }
 {
     let mut found: u8 = 0;
@@ -89,8 +89,8 @@ pub fn lanes_in_state(image: &[u8], state: u8) -> u8
 }
 
 // The lanes of a lane's path; none where it is unused.
-pub fn path_of(image: &[u8], lane: u8) -> u8
-    requires { (length image.now ≡ image_length) × (lane < lane_count) }
+pub fn path_of(image: &Image, lane: u8) -> u8
+    requires { lane < lane_count }
     ensures { result ≡ path_of (settings_of active_set image.now) lane }
 {
     let used = used_lanes(image, ACTIVE_SET);

@@ -5,9 +5,10 @@ ghost use Rattle.std.specs.Prelude.{◌≡◌, ◌+◌, ◌≤◌, ◌<◌, leng
 ghost use Rattle.model.specs.View.{settings_at, app_sel, path_id, explicit, is_used};
 ghost use Rattle.model.specs.Work.{by_module, written_settings, with_active};
 ghost use Rattle.view_settings.specs.Parts.{with_part};
-ghost use Rattle.model.specs.Map.{set_length, image_length};
+ghost use Rattle.model.specs.Map.{set_length};
 ghost use Rattle.bits.specs.Sets.{lane_count};
 
+use model::image::Image;
 use model::lane::Settings;
 
 // Where each setting lies in a set, from its base on: DPConfig a byte a lane, the enables a bit a lane, the rest a nibble a lane.
@@ -45,8 +46,8 @@ pub fn settings_at(image: &[u8], base: usize, lane: u8) -> Settings
 }
 
 // The first four active settings of a lane, in the order of the map.
-fn put_first(image: &mut [u8], lane: u8, h: Settings)
-    requires { (length image.old ≡ image_length) × (lane < lane_count) }
+fn put_first(image: &mut Image, lane: u8, h: Settings)
+    requires { lane < lane_count }
     ensures { image.new ≡ with_part 0 4 h lane image.old }
 {
     bits_lanes::put_lane_byte(image, map::ACTIVE_SET + CONFIG, lane, h.config);
@@ -56,8 +57,8 @@ fn put_first(image: &mut [u8], lane: u8, h: Settings)
 }
 
 // The other four.
-fn put_rest(image: &mut [u8], lane: u8, h: Settings)
-    requires { (length image.old ≡ image_length) × (lane < lane_count) }
+fn put_rest(image: &mut Image, lane: u8, h: Settings)
+    requires { lane < lane_count }
     ensures { image.new ≡ with_part 4 4 h lane image.old }
 {
     bits_lanes::put_lane_bit(image, map::ACTIVE_SET + CDR_RX, lane, h.cdr_rx);
@@ -67,8 +68,8 @@ fn put_rest(image: &mut [u8], lane: u8, h: Settings)
 }
 
 // Every active setting of a lane replaced.
-pub fn put_settings(image: &mut [u8], lane: u8, h: Settings)
-    requires { (length image.old ≡ image_length) × (lane < lane_count) }
+pub fn put_settings(image: &mut Image, lane: u8, h: Settings)
+    requires { lane < lane_count }
     ensures { image.new ≡ with_active h lane image.old }
 {
     put_first(image, lane, h);

@@ -1,8 +1,7 @@
 // The closing step: the group's status, what is pending, the lanes to be commissioned, and its records idle again.
 #![tactic(auto)]
 
-ghost use Rattle.std.specs.Prelude.{◌≡◌, false, length};
-ghost use Rattle.model.specs.Map.{image_length};
+ghost use Rattle.std.specs.Prelude.{◌≡◌, false};
 ghost use Rattle.model.specs.PathStates.{commissioned};
 ghost use Rattle.model.specs.Work.{early, pending_after, commission_mask, closed_state, closing_effect};
 ghost use Rattle.model.specs.declared.lane.Trigger.TheVariants.{Immediate};
@@ -10,6 +9,7 @@ ghost use Rattle.contracts.specs.Forms.{IsState};
 ghost use Rattle.model.specs.State.{state_with};
 ghost use Rattle.work_closing.specs.Leaves.{Leaves};
 
+use model::image::Image;
 use model::lane::{LaneRecord, Trigger, Working};
 use model::path::PathState;
 use model::status::Status;
@@ -22,8 +22,7 @@ pub struct Worked {
 }
 
 // DPInitPending as a closing pass that is no release leaves it: ApplyDPInit sets it, ApplyImmediate leaves it.
-fn put_pending(image: &mut [u8], trigger: Trigger, group: u8)
-    requires { length image.old ≡ image_length }
+fn put_pending(image: &mut Image, trigger: Trigger, group: u8)
     ensures { image.new ≡ pending_after false trigger group image.old }
 {
     match trigger {
@@ -33,8 +32,7 @@ fn put_pending(image: &mut [u8], trigger: Trigger, group: u8)
 }
 
 // DPInitPending as a closing pass leaves it.
-fn set_pending(image: &mut [u8], release: bool, trigger: Trigger, group: u8)
-    requires { length image.old ≡ image_length }
+fn set_pending(image: &mut Image, release: bool, trigger: Trigger, group: u8)
     ensures { image.new ≡ pending_after release trigger group image.old }
 {
     if release {
@@ -61,21 +59,19 @@ fn is_commissioned(state: PathState) -> bool
 }
 
 // The lanes that an ApplyImmediate, no release, commissions: the group, by the state of its first lane.
-fn immediate_mask(image: &[u8], group: u8) -> u8
-    requires { length image.now ≡ image_length }
+fn immediate_mask(image: &Image, group: u8) -> u8
     ensures { result ≡ commission_mask false Immediate image.now group }
 {
     let first = bits_sets::next_in(group, 0);
     if LaneRecord::COUNT <= first {
         return 0;
     }
-    let state = PathState::of(bits_lanes::nibble(image, map::STATES, first));
+    let state = PathState::from(bits_lanes::nibble(image, map::STATES, first));
     if is_commissioned(state) { group } else { 0 }
 }
 
 // The lanes that a closing pass commissions.
-fn commission_mask(image: &[u8], release: bool, trigger: Trigger, group: u8) -> u8
-    requires { length image.now ≡ image_length }
+fn commission_mask(image: &Image, release: bool, trigger: Trigger, group: u8) -> u8
     ensures { result ≡ commission_mask release trigger image.now group }
 {
     if release {
@@ -88,8 +84,7 @@ fn commission_mask(image: &[u8], release: bool, trigger: Trigger, group: u8) -> 
 }
 
 // The group closes with a status.
-pub fn close(image: &mut [u8], w: Working, group: u8, status: Status) -> Working
-    requires { length image.old ≡ image_length }
+pub fn close(image: &mut Image, w: Working, group: u8, status: Status) -> Working
     ensures { IsState (closed_state image.old w group status.code) image.new result }
 {
     bits_nibbles::put_nibbles(image, map::STATUSES, group, status.code);
@@ -97,8 +92,7 @@ pub fn close(image: &mut [u8], w: Working, group: u8, status: Status) -> Working
 }
 
 // The closing step of a pass. The state decides before the pending bits change.
-pub fn close_pass(image: &mut [u8], w: Working, group: u8, trigger: Trigger) -> Worked
-    requires { length image.old ≡ image_length }
+pub fn close_pass(image: &mut Image, w: Working, group: u8, trigger: Trigger) -> Worked
     ensures { Leaves (closing_effect early (state_with image.old w) group trigger) image.new result }
 {
     let release = records::is_release(w, group);

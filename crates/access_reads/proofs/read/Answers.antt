@@ -4,8 +4,8 @@ use borrow.Author.Rules.{rules}
 use Rattle.access_reads.proofs.read.Goals as goal
 
 pub read_half-requires : goal.read_half-requires
-read_half-requires c = let s = c in
-    (search rules, omega (arith, half_fits s.args.image.now s.args.address, offset-fits s.args.address s.args.count s.requires.1), search rules)
+read_half-requires c =
+    (omega (arith, half_fits c.args.image.now c.args.address, offset-fits c.args.address c.args.count c.requires.0), search rules)
 
 pub returns : goal.returns
 returns c = let a = c.args in

@@ -6,7 +6,7 @@ use Rattle.access_writes.proofs.write_byte.Goals as goal
 
 pub write_at-requires : goal.write_at-requires
 write_at-requires c = let a = c.args in
-    (search rules, omega (arith, half_fits a.image.now a.address), omega arith)
+    (omega (arith, half_fits a.image.now a.address), omega arith)
 
 pub returns : goal.returns
 unfolding byte_written_state

@@ -1,22 +1,18 @@
 use mathlib.Core.Path.{◌≡◌, ◌∙◌}
-use Prim.Native.Nat.{◌-◌}
 use native.Mathlib.Omega.{arith}
 use lib.ListN.{length}
-use borrow.Author.Rules.{rules}
 use Rattle.model.specs.State.{state_with}
 use Rattle.access_limits.proofs.Halves.{half_ends}
 use Rattle.access_writes.proofs.Writing.{left_state, state_left, write_turn, write-end}
 use Rattle.access_writes.proofs.write_each.Goals as goal
 
 pub write_byte-next-requires : goal.write_byte-next-requires
-write_byte-next-requires c = (search rules, omega (arith, half_ends c.args.address))
+write_byte-next-requires c = omega (arith, half_ends c.args.address)
 
 pub loop-i-preserved : goal.loop-i-preserved
-loop-i-preserved c = let i = c.loop-i.invariant in
-    let r = c.write_byte-next in
-    (search rules, i.1, r.auto.image ∙ i.2, i.3 ∙ write_turn _ _ _ _ _ (omega arith) (left_state r.ensures))
+loop-i-preserved c = c.loop-i.invariant ∙ write_turn _ _ _ _ _ (omega arith) (left_state c.write_byte-next.ensures)
 
 pub returns : goal.returns
 returns c = let a = c.args in
     let e : c.loop-i.i ≡ length a.bytes.now = omega arith in
-    state_left ((rw e at c.loop-i.invariant.3) ∙ write-end a.address a.bytes.now (state_with c.loop-i.image c.loop-i.next))
+    state_left ((rw e at c.loop-i.invariant) ∙ write-end a.address a.bytes.now (state_with c.loop-i.image c.loop-i.next))

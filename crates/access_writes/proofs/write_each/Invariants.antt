@@ -1,14 +1,10 @@
 use mathlib.Core.Path.{◌≡◌}
-use Prim.Native.Nat.{◌+◌, ◌-◌, ◌≤◌}
-use lib.ListN.{length, drop}
-use Rattle.model.specs.Map.{image_length}
+use Prim.Native.Nat.{◌+◌}
+use lib.ListN.{drop}
 use Rattle.model.specs.Access.{bytes_written_state}
 use Rattle.model.specs.State.{state_with}
 use Rattle.access_writes.proofs.write_each.Given as goal
 
 abbrev pub invariant-loop-i : goal.invariant-loop-i
-invariant-loop-i l = (l.i ≤ length l.bytes) × (l.i-end ≡ length l.bytes) × (length l.image ≡ image_length)
-    × (bytes_written_state l.address l.bytes (state_with l.initial.image l.initial.next) ≡ bytes_written_state (l.address + l.i) (drop l.i l.bytes) (state_with l.image l.next))
-
-abbrev pub decreases-loop-i : goal.decreases-loop-i
-decreases-loop-i l = length l.bytes - l.i
+invariant-loop-i l =
+    bytes_written_state l.address l.bytes (state_with l.initial.image l.initial.next) ≡ bytes_written_state (l.address + l.i) (drop l.i l.bytes) (state_with l.image l.next)

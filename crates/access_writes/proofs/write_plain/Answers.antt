@@ -6,9 +6,8 @@ use Rattle.access_writes.proofs.write_plain.Goals as goal
 
 pub put_bytes-requires : goal.put_bytes-requires
 put_bytes-requires c = let s = c in (
-  search rules,
   omega (arith, half_fits s.args.image.now s.args.address),
-  omega (arith, offset-fits s.args.address (length s.args.bytes.now) s.requires.1),
+  omega (arith, offset-fits s.args.address (length s.args.bytes.now) s.requires),
 )
 
 pub returns : goal.returns

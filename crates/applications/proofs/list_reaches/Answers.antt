@@ -1,14 +1,19 @@
 use borrow.Author.Rules.{rules}
+use borrow.Author.Tests.{tests}
 use native.Mathlib.Omega.{arith}
-use Prim.Native.Nat.{◌-◌}
-use Rattle.applications.proofs.Laws.{descriptor_fits, reaches_begin, reaches_turn}
+use mathlib.Core.Bool.{not}
+use mathlib.Core.Path.{refl, ◌∙◌}
+use Prim.Native.Nat.{◌+◌}
+use lib.Dec.{eqb}
+use lib.ListN.{get_or}
+use Rattle.std.proofs.lemmas.Iterator.{YieldsList-from_range}
+use Rattle.std.proofs.lemmas.Iterator.Search.{all_from_yields_List}
+use Rattle.bits.proofs.Chains.{all_range}
+use Rattle.model.specs.Applications.{descriptor_at, list_reaches}
 use Rattle.applications.proofs.list_reaches.Goals as goal
 
-pub loop-before-init : goal.loop-before-init
-loop-before-init c = (search rules, reaches_begin _)
-
-pub bounds-image-descriptor_at : goal.bounds-image-descriptor_at
-bounds-image-descriptor_at c = let f = descriptor_fits c.descriptor_at.ensures (omega arith) in search (rules, f)
-
-pub loop-before-preserved : goal.loop-before-preserved
-loop-before-preserved c = (search rules, reaches_turn _ _ _ _ c.descriptor_at.ensures c.loop-before.invariant.1)
+pub returns : goal.returns
+unfolding list_reaches
+returns c =
+    all_from_yields_List (λ n. not (eqb (get_or c.args.image.now (descriptor_at (n + 1)) 0) 255)) _ _ _ c.all.ensures.ran (YieldsList-from_range 0 c.args.app c.args.app refl (omega arith)) (λ x b q k. search (rules, tests))
+    ∙ all_range c.args.app _

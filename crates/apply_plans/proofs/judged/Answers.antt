@@ -6,4 +6,4 @@ pub returns-then-meets : goal.returns-then-meets
 returns-then-meets c = known_busy _ _ _ _ _ (sym c.meets.ensures ∙ c.if-meets.true)
 
 pub returns : goal.returns
-returns c = known_free _ _ _ _ _ _ (sym c.meets.ensures ∙ c.if-meets.false) c.verdict_of-verdict.ensures
+returns c = known_free _ _ _ _ _ _ (sym c.meets.ensures ∙ c.if-meets.false) c.verdict_of.ensures

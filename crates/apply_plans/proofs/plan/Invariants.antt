@@ -1,14 +1,9 @@
 use mathlib.Core.Path.{◌≡◌}
-use Prim.Native.Nat.{◌≤◌, ◌-◌}
-use Rattle.bits.specs.Sets.{lane_count}
 use Rattle.model.specs.Map.{staged_base}
 use Rattle.model.specs.View.{view_of}
 use Rattle.apply_plans.specs.Plans.{found_for, Plans}
 use Rattle.apply_plans.proofs.plan.Given as goal
 
 abbrev pub invariant-loop-lane : goal.invariant-loop-lane
-invariant-loop-lane l = (l.lane ≤ lane_count) × Plans l.kind l.set (view_of (staged_base l.set) l.image) l.busy l.selected l.lane (record { marked = l.marked; given = l.given })
+invariant-loop-lane l = Plans l.kind l.set (view_of (staged_base l.set) l.image) l.busy l.selected l.lane (record { marked = l.marked; given = l.given })
     × (l.last ≡ found_for l.kind (view_of (staged_base l.set) l.image) l.busy l.selected l.last.lane)
-
-abbrev pub decreases-loop-lane : goal.decreases-loop-lane
-decreases-loop-lane l = lane_count - l.lane

@@ -1,14 +1,11 @@
-use mathlib.Core.Bool.{not}
-use mathlib.Core.Path.{ap}
 use mathlib.Core.Path.{sym, ◌∙◌}
-use borrow.Author.Tests.{not-true, not-false}
 use Rattle.bits.specs.Choice.{both}
 use Rattle.apply_reasons.proofs.exceeds.Goals as goal
 
-pub returns-then-not-is_in : goal.returns-then-not-is_in
+pub returns-then-is_in : goal.returns-then-is_in
 unfolding both
-returns-then-not-is_in c = rw (sym c.is_in.ensures ∙ not-true _ (ap not c.if-not-is_in.true), both)
+returns-then-is_in c = rw (sym c.is_in.ensures ∙ c.if-is_in.true, both) c.is_out_of_limits.ensures
 
-pub returns : goal.returns
+pub returns-else-is_in : goal.returns-else-is_in
 unfolding both
-returns c = rw (sym c.is_in.ensures ∙ not-false _ (ap not c.if-not-is_in.false), both) c.is_out_of_limits.ensures
+returns-else-is_in c = rw (sym c.is_in.ensures ∙ c.if-is_in.false, both) c.if-is_in.false

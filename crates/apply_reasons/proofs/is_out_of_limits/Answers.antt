@@ -12,4 +12,4 @@ returns c = limits_by _ _ _ _ _ _ _ _
     c.take_field-4.ensures c.is_refused-amplitude.ensures c.explicit.ensures
     ∙ ap
     (out_of_limits (limits_of _))
-    (c.settings_at-h.ensures ∙ sym (settings-of _ _ _ c.requires.2))
+    (c.settings_at-h.ensures ∙ sym (settings-of _ _ _ c.requires.1))

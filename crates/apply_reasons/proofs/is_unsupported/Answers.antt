@@ -1,21 +1,17 @@
 use borrow.Author.Rules.{rules}
-use mathlib.Core.Path.{◌≡◌}
-use native.Mathlib.Omega.{arith}
-use Prim.Native.Nat.{◌-◌}
-use Rattle.bits.specs.Sets.{some_in}
-use Rattle.model.specs.View.{of, view_of}
-use Rattle.model.specs.Verdicts.{unsupported}
-use Rattle.bits.proofs.Turns.{any_begin, any_turn}
+use borrow.Author.Tests.{tests}
+use mathlib.Core.Path.{refl, ◌∙◌}
+use Rattle.std.proofs.lemmas.Iterator.{YieldsList-from_range}
+use Rattle.std.proofs.lemmas.Iterator.Search.{any_from_yields_List}
+use Rattle.bits.specs.Choice.{both}
+use Rattle.bits.specs.Sets.{has, some_in}
+use Rattle.bits.proofs.Chains.{any_range}
+use Rattle.model.specs.View.{of, limits_of, settings_of, view_of}
+use Rattle.model.specs.Verdicts.{out_of_limits, unsupported}
 use Rattle.apply_reasons.proofs.is_unsupported.Goals as goal
-
-pub loop-lane-init : goal.loop-lane-init
-unfolding unsupported some_in view_of
-loop-lane-init c = (search rules, any_begin _)
-
-pub loop-lane-preserved : goal.loop-lane-preserved
-unfolding unsupported some_in view_of
-loop-lane-preserved c = (search rules, any_turn _ _ _ _ c.loop-lane.invariant.1 c.exceeds-unsupported.ensures)
 
 pub returns : goal.returns
 unfolding unsupported some_in view_of
-returns c = let e : c.loop-lane.lane ≡ 8 = omega arith in rw e at c.loop-lane.invariant.1
+returns c =
+    any_from_yields_List (λ l. both (has c.args.group l) (out_of_limits (limits_of c.args.image.now) (of (settings_of c.args.base c.args.image.now) l))) _ _ _ c.any.ensures.ran (YieldsList-from_range 0 8 8 refl refl) (λ x b q k. search (rules, tests))
+    ∙ any_range 8 _

@@ -7,7 +7,7 @@ pub returns : goal.returns
 unfolding wrong_state view_of
 returns c = rw (
   c.is_resting.ensures,
-  c.of-state.ensures,
+  c.from-state.ensures,
   c.state_of.ensures,
   c.is_too_late.ensures,
 )

@@ -14,7 +14,7 @@ unfolding apply_verdict apply_by view_of pick
 returns-in_default c = rw (
   sym c.has_other_app_sel.ensures ∙ c.if-has_other_app_sel.false,
   pick,
-  application_in_lem _ _ c.requires.3
+  application_in_lem _ _ c.requires.2
       ∙ (sym c.look_up.ensures ∙ c.in_default.is),
 )
 
@@ -23,7 +23,7 @@ unfolding apply_verdict view_of pick
 returns c = rw (
   sym c.has_other_app_sel.ensures ∙ c.if-has_other_app_sel.false,
   pick,
-  application_in_lem _ _ c.requires.3
-      ∙ (sym c.look_up.ensures ∙ c.in-Found.is),
+  application_in_lem _ _ c.requires.2
+      ∙ (sym c.look_up.ensures ∙ c.in-Some.is),
 )
     c.descriptor_verdict.ensures

@@ -7,7 +7,7 @@ use Rattle.apply_verdicts.proofs.release_verdict.Goals as goal
 pub returns-then-used_at : goal.returns-then-used_at
 unfolding release_verdict view_of pick
 returns-then-used_at c = rw (
-  ← c.requires.2,
+  ← c.requires.1,
   sym c.used_at.ensures ∙ c.if-used_at.true,
   pick,
 )
@@ -15,4 +15,4 @@ returns-then-used_at c = rw (
 
 pub returns : goal.returns
 unfolding release_verdict view_of pick
-returns c = rw (← c.requires.2, sym c.used_at.ensures ∙ c.if-used_at.false, pick)
+returns c = rw (← c.requires.1, sym c.used_at.ensures ∙ c.if-used_at.false, pick)

@@ -11,7 +11,7 @@ pub returns-then-first-ge-COUNT : goal.returns-then-first-ge-COUNT
 returns-then-first-ge-COUNT c = rw c.next_in-first.ensures (verdict-none _ _ _ _ (rw (← c.next_in-first.ensures) c.if-first-ge-COUNT.true))
 
 pub apply_verdict-requires : goal.apply_verdict-requires
-apply_verdict-requires c = (search rules, search rules, rw c.id_at-id.ensures (id_lt _), rw c.app_at-app.ensures (app_lt _))
+apply_verdict-requires c = (search rules, rw c.id_at-id.ensures (id_lt _), rw c.app_at-app.ensures (app_lt _))
 
 pub returns-then-used_at : goal.returns-then-used_at
 unfolding verdict_of view_of pick

@@ -3,4 +3,4 @@ use Rattle.commands.proofs.complete.Goals as goal
 
 pub returns : goal.returns
 unfolding completed_image
-returns c = rw (← c.code.ensures) c.put.ensures
+returns c = rw (← c.from.ensures) c.put.ensures

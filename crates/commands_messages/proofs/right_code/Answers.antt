@@ -9,7 +9,7 @@ use Rattle.commands_messages.proofs.right_code.Goals as goal
 
 pub overflow_add-header : goal.overflow_add-header
 overflow_add-header c = let a = c.args in
-    let byte = c.type_inv.image in
+    let byte = c.fits-image in
     let h = sum_bound (λ k. get_or a.image.now (command_number + k) 0) summed_header (λ k. omega (arith, byte (command_number + k))) in
     let b = sum_bound (λ k. get_or a.image.now (message_body + k) 0) a.count (λ k. omega (arith, byte (message_body + k))) in
     omega (arith, h, b, c.sum-header.ensures, c.sum-body.ensures)

@@ -5,4 +5,4 @@ use Rattle.firmware_door.proofs.registers_lasting.Goals as goal
 
 pub returns : goal.returns
 unfolding event_effect
-returns c = left_asked _ _ _ _ _ _ _ _ _ c.lasting.ensures (λ s. refl) c.without_buffer.ensures
+returns c = left_asked _ _ _ _ _ _ _ _ _ c.from.ensures (λ s. refl) c.without_buffer.ensures

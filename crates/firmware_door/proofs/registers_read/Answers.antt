@@ -5,4 +5,4 @@ use Rattle.firmware_door.proofs.registers_read.Goals as goal
 
 pub returns : goal.returns
 unfolding event_effect
-returns c = left_asked _ _ _ _ _ _ _ _ _ c.read.ensures (λ s. refl) c.call.ensures
+returns c = left_asked _ _ _ _ _ _ _ _ _ c.from.ensures (λ s. refl) c.call.ensures

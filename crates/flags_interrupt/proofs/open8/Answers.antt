@@ -5,4 +5,4 @@ use Rattle.flags_interrupt.proofs.open8.Goals as goal
 pub returns : goal.returns
 returns c = let s = c.args in
     rw (c.word8.ensures, c.word8-2.ensures)
-    (open_word 8 s.image.now s.k (λ i. omega (arith, c.type_inv.image i)))
+    (open_word 8 s.image.now s.k (λ i. omega (arith, c.fits-image i)))

@@ -1,4 +1,3 @@
-use borrow.Author.Rules.{rules}
 use mathlib.Core.Path.{ap, ◌∙◌}
 use native.Mathlib.Omega.{arith}
 use Rattle.model.specs.Records.{on_at, with_ons}
@@ -7,13 +6,13 @@ use Rattle.model.proofs.Lasting.{condition-among}
 use Rattle.flags_lasting.proofs.condition.Goals as goal
 
 pub condition-requires : goal.condition-requires
-condition-requires c = let among = condition-among _ c.requires.1 in (search rules, omega arith)
+condition-requires c = let among = condition-among _ c.requires in omega arith
 
 pub lasting_index-requires : goal.lasting_index-requires
-lasting_index-requires c = let among = condition-among _ c.requires.1 in (among.0, among.1)
+lasting_index-requires c = let among = condition-among _ c.requires in (among.0, among.1)
 
 pub after_condition-requires : goal.after_condition-requires
-after_condition-requires c = let among = condition-among _ c.requires.1 in rw c.lasting_index.ensures among.2
+after_condition-requires c = let among = condition-among _ c.requires in rw c.lasting_index.ensures among.2
 
 pub returns : goal.returns
 unfolding lasting_state

@@ -12,4 +12,4 @@ unfolding sampled_state with_on
 returns c = let begun = c in
     let eight : length c.args.w.lanes ≡ lane_count = search rules in
     let taken = c.sample-beyond.ensures in
-    record { image = taken.image; working = sampled_by _ _ _ _ _ _ eight begun.requires.1 taken.beyond c.after_sample-own.ensures }
+    record { image = taken.image; working = sampled_by _ _ _ _ _ _ eight begun.requires taken.beyond c.after_sample-own.ensures }

@@ -1,15 +1,14 @@
-use borrow.Author.Tests.{eq-eqb, ne_eqb}
-use mathlib.Core.Path.{sym, ◌∙◌}
+use mathlib.Core.Bool.{not}
+use mathlib.Core.Path.{sym, ◌∙◌, ap}
 use Rattle.bits.proofs.Tests.{only_true, only_false}
-use Rattle.model.specs.Hardware.{is_state, moved_image}
+use Rattle.model.specs.Hardware.{moved_image}
+use Rattle.model.proofs.States.{path_state_is}
 use Rattle.hardware_moves.proofs.move_to.Goals as goal
 
-pub returns-then-code : goal.returns-then-code
-unfolding moved_image is_state
-returns-then-code c = c.enter.ensures
-    ∙ sym
-    (only_true _ _ (rw (← c.code.ensures, ← c.code-2.ensures, ne_eqb _ _ c.if-code.true)))
+pub returns-then-ne : goal.returns-then-ne
+unfolding moved_image
+returns-then-ne c = c.enter.ensures ∙ sym (only_true _ _ (ap not (sym (path_state_is _ _)) ∙ sym c.ne.ensures ∙ c.if-ne.true))
 
-pub returns-else-code : goal.returns-else-code
-unfolding moved_image is_state
-returns-else-code c = sym (only_false _ _ (rw (← c.code.ensures, ← c.code-2.ensures, eq-eqb _ _ c.if-code.false)))
+pub returns-else-ne : goal.returns-else-ne
+unfolding moved_image
+returns-else-ne c = sym (only_false _ _ (ap not (sym (path_state_is _ _)) ∙ sym c.ne.ensures ∙ c.if-ne.false))

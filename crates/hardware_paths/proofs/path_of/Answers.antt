@@ -13,4 +13,4 @@ pub returns : goal.returns
 returns c = let s = c in
     c.gather.ensures
     ∙ rw c.word8-all.ensures
-    (path_found s.args.image.now s.args.lane (λ i. omega (arith, c.type_inv.image i)) s.requires.1 s.requires.2)
+    (path_found s.args.image.now s.args.lane (λ i. omega (arith, c.fits-image i)) s.requires.0 s.requires.1)

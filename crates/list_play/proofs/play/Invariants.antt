@@ -7,9 +7,8 @@ use Rattle.list_play.proofs.play.Given as goal
 
 abbrev pub invariant-loop-r : goal.invariant-loop-r
 invariant-loop-r l =
-    (l.r.end ≡ (begin_of (length l.events) l.fn.image l.fn.answers l.fn.w).r.end)
-    × (turns_of (drop l.r.at (take l.r.end l.events)) (record { image = l.image; answers = l.answers; r = l.r }) ≡ played_of l.events l.fn.image l.fn.answers l.fn.w)
-    × (length l.image ≡ length l.fn.image) × (length l.answers ≡ length l.fn.answers)
+    (l.r.end ≡ (begin_of (length l.events) l.initial.image l.fn.answers l.fn.w).r.end)
+    × (turns_of (drop l.r.at (take l.r.end l.events)) (record { image = l.image; answers = l.answers; r = l.r }) ≡ played_of l.events l.initial.image l.fn.answers l.fn.w)
 
 abbrev pub decreases-loop-r : goal.decreases-loop-r
 decreases-loop-r l = l.r.end - l.r.at

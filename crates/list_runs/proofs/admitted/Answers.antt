@@ -1,20 +1,20 @@
-use mathlib.Core.Path.{sym, ◌∙◌}
-use borrow.Author.Tests.{lt-ltb, le-ltb, eq-eqb, ne_eqb}
+use mathlib.Core.Path.{refl, sym, ◌∙◌}
+use borrow.Author.Tests.{lt-ltb, le-ltb}
 use Rattle.bits.proofs.Tests.{pick_true, pick-false}
-use Rattle.model.specs.Answers.{is_done}
 use Rattle.list_runs.specs.Runs.{admitted_run}
+use Rattle.model.proofs.States.{not_done, is_done_lem}
 use Rattle.list_runs.proofs.admitted.Goals as goal
 
-pub returns-then-number-ne0 : goal.returns-then-number-ne0
-unfolding admitted_run is_done
-returns-then-number-ne0 c = c.refused.ensures ∙ sym (pick-false _ _ (rw (← c.number.ensures) (ne_eqb _ 0 c.if-number-ne0.true)))
+pub returns-then-ne : goal.returns-then-ne
+unfolding admitted_run
+returns-then-ne c = c.refused.ensures ∙ sym (pick-false _ _ (not_done _ _ _ refl c.ne.ensures c.if-ne.true))
 
 pub returns-then-room-n : goal.returns-then-room-n
-unfolding admitted_run is_done
+unfolding admitted_run
 returns-then-room-n c = c.refused-then-room-n.ensures
-    ∙ sym (pick_true _ _ (rw (← c.number.ensures) (eq-eqb _ 0 c.if-number-ne0.false)) ∙ pick_true _ _ (lt-ltb _ _ c.if-room-n.true))
+    ∙ sym (pick_true _ _ (is_done_lem _ _ _ refl c.ne.ensures c.if-ne.false) ∙ pick_true _ _ (lt-ltb _ _ c.if-room-n.true))
 
 pub returns : goal.returns
-unfolding admitted_run is_done
+unfolding admitted_run
 returns c = rw c.reply-left.ensures
-    (sym (pick_true _ _ (rw (← c.number.ensures) (eq-eqb _ 0 c.if-number-ne0.false)) ∙ pick-false _ _ (le-ltb _ _ c.if-room-n.false)))
+    (sym (pick_true _ _ (is_done_lem _ _ _ refl c.ne.ensures c.if-ne.false) ∙ pick-false _ _ (le-ltb _ _ c.if-room-n.false)))

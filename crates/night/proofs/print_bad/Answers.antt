@@ -9,7 +9,7 @@ pub put_bad-n-requires : goal.put_bad-n-requires
 put_bad-n-requires g c =
     let a = c.args.answer in
     let most = bad_most (number a) (number_lt a) in
-    rw c.number-number.ensures (omega arith)
+    rw c.from-number.ensures (omega arith)
 
 pub slice_bounds-write_all-end : goal.slice_bounds-write_all-end
 slice_bounds-write_all-end g c = let p = c.put_bad-n in puts_within (omega arith) p.auto.out p.ensures

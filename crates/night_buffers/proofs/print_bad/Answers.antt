@@ -9,7 +9,7 @@ returns-then-out-lt-BAD_ROOM c = gives_none c.if-out-lt-BAD_ROOM.true
 
 pub put_bad-n-requires : goal.put_bad-n-requires
 put_bad-n-requires c = let most = bad_most (number c.args.answer) (number_lt c.args.answer) in
-    rw c.number.ensures (omega arith)
+    rw c.from.ensures (omega arith)
 
 pub returns : goal.returns
-returns c = gives_text c.if-out-lt-BAD_ROOM.false (rw c.number.ensures at c.put_bad-n.ensures)
+returns c = gives_text c.if-out-lt-BAD_ROOM.false (rw c.from.ensures at c.put_bad-n.ensures)

@@ -14,5 +14,4 @@ pub returns : goal.returns
 returns c = let x = c.args.x in (
   rw (decimal_digit (x / 10) (omega arith)) (low_byte (x / 10) (x % 10) (omega arith)),
   rw (decimal_digit (x % 10) (omega arith)) (high_byte (x / 10) (x % 10) (omega arith) (omega arith)),
-  omega arith,
 )

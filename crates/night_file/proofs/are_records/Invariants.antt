@@ -1,12 +1,11 @@
 use mathlib.Core.Path.{◌≡◌}
 use mathlib.Core.Bool.{true}
-use Prim.Native.Nat.{◌-◌, ◌≤◌}
+use mathlib.Core.List.{[]}
+use lib.ListN.{get_or}
 use Rattle.bits.specs.Loop.{all_below}
-use Rattle.night_file.proofs.Checks.{is_record_in}
+use Rattle.model.specs.File.{is_record}
+use Rattle.night_records.specs.Edition.{row_of}
 use Rattle.night_file.proofs.are_records.Given as goal
 
-abbrev pub invariant-loop-k : goal.invariant-loop-k
-invariant-loop-k l = (l.k ≤ l.count) × (all_below l.k (is_record_in l.file) ≡ true)
-
-abbrev pub decreases-loop-k : goal.decreases-loop-k
-decreases-loop-k l = l.count - l.k
+abbrev pub invariant-loop-record : goal.invariant-loop-record
+invariant-loop-record l = all_below l.record-index (λ k. is_record (row_of l.edition) (get_or l.records k [])) ≡ true

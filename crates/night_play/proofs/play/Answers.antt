@@ -1,46 +1,37 @@
 use native.Mathlib.Omega.{arith}
-use mathlib.Core.Path.{refl, sym, ap, ◌∙◌}
-use Prim.Native.Nat.{◌-◌}
-use lib.ListN.{length}
+use mathlib.Core.Path.{◌≡◌, sym, ap, ◌∙◌}
 use Rattle.model.specs.Records.{idle_working}
 use Rattle.model.specs.State.{state_with}
+use lib.ListN.{length}
+use Rattle.night_records.specs.Edition.{row_of}
 use Rattle.night_text.proofs.Lines.{length_index}
-use Rattle.night_file.proofs.Checks.{part_record}
 use Rattle.night_play.proofs.Records.{state-none, text-none, turn_state, turn_text, turn_room}
 use borrow.Author.Rules.{rules}
 use Rattle.night_play.proofs.play.Goals as goal
 
 pub loop-k-init : goal.loop-k-init
 loop-k-init c = let a = c.args in
-    let s = state_with a.image.now idle_working in (
-      search rules,
-      search rules,
-      search rules,
-      refl,
-      search rules,
-      ap (state_with a.image.now) c.idle-working.ensures ∙ sym (state-none s a.file.now),
-      text-none s a.file.now a.out.now,
-    )
+    let s = state_with a.image.now idle_working in
+    record {
+      room = omega arith;
+      state = ap (state_with a.image.now) c.idle.ensures ∙ sym (state-none s (row_of a.night.edition) a.night.records.now);
+      text = text-none s (row_of a.night.edition) a.night.records.now a.out.now;
+    }
 
 pub turn-reached-requires : goal.turn-reached-requires
-turn-reached-requires c = (search rules, search rules, search rules, omega (arith, length_index c.loop-k.k (omega arith)))
+turn-reached-requires c = omega (arith, length_index c.loop-k.k (omega arith))
 
 pub loop-k-preserved : goal.loop-k-preserved
 loop-k-preserved c = let a = c.args in
     let s = state_with a.image.now idle_working in
-    let l = c.loop-k in
-    let i = l.invariant in
+    let row = row_of a.night.edition in
+    let i = c.loop-k.invariant in
     let t = c.turn-reached in
-    let named = c.edition_in-edition.ensures in
-    let part = part_record a.file.now a.offset l.k c.requires.2 in
-    let few = c.requires.4 in
-    let wide = c.requires.5 in
-    let room = turn_room s a.file.now _ _ _ _ _ _ _ _ _ _ _ i.5 _ named part t.ensures (omega arith) in (
-      search rules,
-      t.auto.image ∙ i.1,
-      t.auto.buffer ∙ i.2,
-      t.auto.out ∙ i.3,
-      omega arith,
-      turn_state s a.file.now _ _ _ _ _ _ _ _ _ _ _ i.5 _ named part t.ensures,
-      turn_text s a.file.now _ _ _ _ _ _ _ _ _ _ _ i.5 _ named part t.ensures _ (omega arith) i.6,
-    )
+    record {
+      room = omega (arith, turn_room s row a.night.records.now _ _ _ _ _ _ _ _ _ _ i.state t.ensures (omega arith));
+      state = turn_state s row a.night.records.now _ _ _ _ _ _ _ _ _ _ i.state t.ensures;
+      text = turn_text s row a.night.records.now _ _ _ _ _ _ _ _ _ _ i.state t.ensures _ (omega arith) i.text;
+    }
+
+pub returns : goal.returns
+returns c = let e : c.loop-k.k ≡ length c.args.night.records.now = omega arith in rw e at c.loop-k.invariant.text

@@ -1,3 +1,4 @@
+use borrow.Author.Rules.{rules}
 use native.Mathlib.Omega.{arith}
 use mathlib.Core.Path.{refl, ap, ◌∙◌}
 use Prim.Native.Nat.{ℕ}
@@ -7,5 +8,5 @@ use Rattle.night_records.proofs.is_clear_from_3.Goals as goal
 
 pub returns : goal.returns
 returns c = let bytes = c.args.bytes.now in
-    let none = tail_none bytes (λ i. omega (arith, c.type_inv.bytes i)) in
-    clear_step 3 bytes _ _ (omega arith) refl (ap (λ (t : ℕ). eqb t 0) c.requires.1 ∙ none)
+    let none = tail_none bytes (search rules) in
+    clear_step 3 bytes _ _ (omega arith) refl (ap (λ (t : ℕ). eqb t 0) c.requires ∙ none)

@@ -11,8 +11,7 @@ returns-then-n-eq0 c = rw (← c.data_bytes-n.ensures.0, c.if-n-eq0.true) c.is_c
 
 pub returns : goal.returns
 unfolding written_bytes
-returns c = let s = c in
-    let n = c.data_bytes-n.result in
-    let below = tail_below s.args.bytes.now (λ i. omega (arith, c.type_inv.bytes i)) (n - 1) in
+returns c = let n = c.data_bytes-n.result in
+    let below = tail_below c.args.bytes.now c.fits-bytes (n - 1) in
     let e : 4 + (n - 1) ≡ 3 + n = omega arith in
-    rw (← c.data_bytes-n.ensures.0, ← e, c.byte_limit.ensures, s.requires.1) below
+    rw (← c.data_bytes-n.ensures.0, ← e, c.byte_limit.ensures, c.requires) below

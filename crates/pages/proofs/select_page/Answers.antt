@@ -1,10 +1,10 @@
 use Rattle.model.specs.Pages.{selected_image}
 use Rattle.pages.proofs.select_page.Goals as goal
 
-pub returns-in-Unsupported : goal.returns-in-Unsupported
+pub returns-in-None : goal.returns-in-None
 unfolding selected_image
-returns-in-Unsupported c = rw (← c.page_start.ensures, c.in-Unsupported.is)
+returns-in-None c = rw (← c.page_start.ensures, c.in-None.is)
 
-pub returns-in-At : goal.returns-in-At
+pub returns-in-Some : goal.returns-in-Some
 unfolding selected_image
-returns-in-At c = rw (← c.page_start.ensures, c.in-At.is)
+returns-in-Some c = rw (← c.page_start.ensures, c.in-Some.is)

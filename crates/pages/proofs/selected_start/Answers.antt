@@ -1,10 +1,9 @@
+use Rattle.std.specs.Option.{unwrap_or}
+use mathlib.Core.Path.{ap, ◌∙◌}
+use Rattle.model.specs.Map.{page00}
 use Rattle.model.specs.Pages.{selected_start}
 use Rattle.pages.proofs.selected_start.Goals as goal
 
-pub returns-in-Unsupported : goal.returns-in-Unsupported
+pub returns : goal.returns
 unfolding selected_start
-returns-in-Unsupported c = rw (← c.page_start.ensures, c.in-Unsupported.is)
-
-pub returns-in-At : goal.returns-in-At
-unfolding selected_start
-returns-in-At c = rw (← c.page_start.ensures, c.in-At.is)
+returns c = c.unwrap_or.ensures ∙ ap (λ place. unwrap_or place page00) c.page_start.ensures

@@ -1,13 +1,19 @@
-use Prim.Native.Nat.{◌-◌}
+use mathlib.Core.Path.{sym, ◌∙◌}
 use native.Mathlib.Omega.{arith}
-use lib.ListN.{length, length-set}
+use Prim.Native.Nat.{◌<◌}
+use lib.ListN.{length, drop}
+use lib.Seq.{length-take-le}
+use Rattle.std.proofs.lemmas.List.{take-append-drop, set-append_left}
 use Rattle.pages_window.proofs.Taking.{take_begin, take_turn}
-use borrow.Author.Rules.{rules}
 use Rattle.pages_window.proofs.take_shown.Goals as goal
 
 pub loop-k-init : goal.loop-k-init
-loop-k-init c = (search rules, search rules, take_begin _ _ _)
+loop-k-init c = take-append-drop c.args.count c.args.buffer.now ∙ take_begin _ _ _
 
 pub loop-k-preserved : goal.loop-k-preserved
-loop-k-preserved c = let i = c.loop-k.invariant in
-    (search rules, simp length-set i.1, rw c.shown.ensures (take_turn _ _ _ _ _ (omega arith) i.2))
+loop-k-preserved c =
+    let l = c.loop-k in
+    let long = length-take-le c.args.count c.args.buffer.now c.requires.1 in
+    let inside : l.k < length l.byte-items = omega arith in
+    rw c.shown.ensures (sym (set-append_left l.byte-items (drop c.args.count c.args.buffer.now) l.k _ inside)
+    ∙ take_turn _ _ _ _ _ (omega (arith, long)) l.invariant)

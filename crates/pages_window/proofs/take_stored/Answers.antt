@@ -1,13 +1,9 @@
-use Prim.Native.Nat.{◌-◌}
-use native.Mathlib.Omega.{arith}
-use lib.ListN.{length, length-set}
-use Rattle.pages_window.proofs.Taking.{take_begin, stored_turn}
-use borrow.Author.Rules.{rules}
+use mathlib.Core.Path.{ap, ◌∙◌}
+use mathlib.Core.List.{◌++◌}
+use lib.ListN.{drop}
+use Rattle.pages_window.proofs.Taking.{stored_part}
 use Rattle.pages_window.proofs.take_stored.Goals as goal
 
-pub loop-k-init : goal.loop-k-init
-loop-k-init c = (search rules, search rules, take_begin _ _ _)
-
-pub loop-k-preserved : goal.loop-k-preserved
-loop-k-preserved c = let i = c.loop-k.invariant in
-    (search rules, simp length-set i.1, stored_turn _ _ _ _ _ _ c.requires.2 c.loop-k-test.true (omega arith) i.2)
+pub returns : goal.returns
+returns c = ap (λ t. t ++ drop c.args.count c.args.buffer.now) c.copy_from_slice.ensures.after
+    ∙ stored_part c.args.image.now c.args.first c.args.count c.args.buffer.now c.requires.2 c.requires.0

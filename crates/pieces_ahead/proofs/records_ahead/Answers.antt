@@ -2,5 +2,6 @@ use Rattle.pieces_ahead.proofs.Stretches.{records_go}
 use Rattle.pieces_ahead.proofs.records_ahead.Goals as goal
 
 pub returns : goal.returns
-returns c = let s = c in
-    records_go s.args.f _ s.args.image.now _ s.args.piece.now s.args.out.now _ s.args.next s.args.records _ s.requires.1 s.requires.2 s.requires.3 s.requires.4 c.play-played.ensures c.between.ensures
+returns c =
+    let ran = rw c.from.ensures at c.play-played.ensures in
+    records_go c.args.f _ c.args.image.now _ c.args.piece.now c.args.out.now _ c.args.next c.args.records c.play-played.result c.requires.0 c.requires.1 c.requires.2 c.requires.3 ran c.between.ensures

@@ -9,8 +9,8 @@ use Rattle.pieces_carried.proofs.refuse.Goals as goal
 pub put_bad-at-requires : goal.put_bad-at-requires
 put_bad-at-requires c = let a = c.args.answer in
     let most = bad_most (number a) (number_lt a) in
-    rw c.number-number.ensures (omega arith)
+    rw c.from.ensures (omega arith)
 
 pub returns : goal.returns
 unfolding refused kept carried_by
-returns c = λ x. record { carried = c.entering-carried.ensures; registers = refl; text = rw c.number-number.ensures at c.put_bad-at.ensures }
+returns c = λ x. record { carried = c.entering-carried.ensures; registers = refl; text = rw c.from.ensures at c.put_bad-at.ensures }

@@ -11,13 +11,13 @@ use Rattle.pieces_end.proofs.end_records.Goals as goal
 
 pub returns-then-records-next : goal.returns-then-records-next
 unfolding carried_by kept
-returns-then-records-next c = let s = c in
-    let whole : both (leb s.args.records s.args.next) (eqb s.args.c.count 0) ≡ true = sym (and_both _ _) ∙ c.if-records-next.true in
-    λ x. rw (end_whole (carried_by s.args.c x) s.args.next s.args.records (rw (← tidy-count s.requires.0) whole))
-    (record { carried = c.entering-over.ensures; registers = refl; text = puts_none })
+returns-then-records-next c =
+    let whole : both (leb c.args.records c.args.next) (eqb c.args.c.count 0) ≡ true = sym (and_both _ _) ∙ c.if-records-next.true in
+    λ x. rw (end_whole (carried_by c.args.c x) c.args.next c.args.records (rw (← tidy-count c.requires.0) whole))
+    (record { carried = c.entering.ensures; registers = refl; text = puts_none })
 
 pub returns : goal.returns
 unfolding carried_by
-returns c = let s = c in
-    let early : both (leb s.args.records s.args.next) (eqb s.args.c.count 0) ≡ false = sym (and_both _ _) ∙ c.if-records-next.false in
-    λ x. rw (end_early (carried_by s.args.c x) s.args.next s.args.records (rw (← tidy-count s.requires.0) early)) (c.refuse.ensures x)
+returns c =
+    let early : both (leb c.args.records c.args.next) (eqb c.args.c.count 0) ≡ false = sym (and_both _ _) ∙ c.if-records-next.false in
+    λ x. rw (end_early (carried_by c.args.c x) c.args.next c.args.records (rw (← tidy-count c.requires.0) early)) (c.refuse.ensures x)

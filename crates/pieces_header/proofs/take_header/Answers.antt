@@ -12,16 +12,16 @@ use Rattle.pieces_header.proofs.take_header.Goals as goal
 
 pub returns-then-c-lt-HEADER_MOST : goal.returns-then-c-lt-HEADER_MOST
 unfolding carried_by
-returns-then-c-lt-HEADER_MOST c = let s = c in
-    let n : length (held_in s.args.c ++ (s.args.b ∷ [])) < image_offset = omega (arith, tidy-count s.requires.0, length-append (held_in s.args.c) (s.args.b ∷ [])) in
-    λ x. rw (header_waits (carried_by s.args.c x) (held_in s.args.c ++ (s.args.b ∷ [])) n)
+returns-then-c-lt-HEADER_MOST c =
+    let n : length (held_in c.args.c ++ (c.args.b ∷ [])) < image_offset = omega (arith, tidy-count c.requires.0, length-append (held_in c.args.c) (c.args.b ∷ [])) in
+    λ x. rw (header_waits (carried_by c.args.c x) (held_in c.args.c ++ (c.args.b ∷ [])) n)
     (record { carried = c.hold.ensures.1.same x; registers = refl; text = rw c.hold.ensures.0 puts_none })
 
 pub bounds-held-c : goal.bounds-held-c
 bounds-held-c c = omega (arith, tidy-count c.requires.0, held-short c.args.c)
 
 pub returns : goal.returns
-returns c = let s = c in
-    let n : length (held_in s.args.c ++ (s.args.b ∷ [])) ≡ held_room = omega (arith, held-short s.args.c, tidy-count s.requires.0, length-append (held_in s.args.c) (s.args.b ∷ [])) in
-    let e = tidy-set s.args.c s.args.b s.requires.0 ∙ padded-whole (held_in s.args.c ++ (s.args.b ∷ [])) n in
+returns c =
+    let n : length (held_in c.args.c ++ (c.args.b ∷ [])) ≡ held_room = omega (arith, held-short c.args.c, tidy-count c.requires.0, length-append (held_in c.args.c) (c.args.b ∷ [])) in
+    let e = tidy-set c.args.c c.args.b c.requires.0 ∙ padded-whole (held_in c.args.c ++ (c.args.b ∷ [])) n in
     λ x. rw (← e) (c.take_whole_header.ensures x)

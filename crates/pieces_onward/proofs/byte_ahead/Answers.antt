@@ -5,5 +5,5 @@ use Rattle.pieces_onward.proofs.byte_ahead.Goals as goal
 pub returns : goal.returns
 returns c = let a = c.args in
     let p = c.requires in
-    let t = c.take-t in
-    (refl, byte_goes a.f a.image.now _ a.piece.now a.out.now _ _ p.1 p.2 p.3 t.auto.out t.ensures)
+    let t = c.take-come in
+    (refl, byte_goes a.f a.image.now _ a.piece.now a.out.now _ _ p.0 p.1 p.2 t.auto.out t.ensures)

@@ -13,4 +13,4 @@ pub returns-clause-fed : goal.returns-clause-fed
 returns-clause-fed g c =
     let f = c.feed-fed.ensures in
     let p = c.requires in
-    (fed-moves _ _ _ _ f p.0 p.1 p.2, fed-within _ _ _ _ f)
+    (fed-moves _ _ _ _ f c.told-image p.0 p.1, fed-within _ _ _ _ f)

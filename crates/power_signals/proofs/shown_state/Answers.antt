@@ -4,4 +4,4 @@ use Rattle.power_signals.proofs.shown_state.Goals as goal
 
 pub returns : goal.returns
 unfolding shown_module_state
-returns c = c.of.ensures ∙ ap module_state_of c.get.ensures
+returns c = c.from.ensures ∙ ap module_state_of c.get.ensures

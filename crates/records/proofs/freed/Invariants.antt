@@ -1,13 +1,9 @@
+use Rattle.std.proofs.Common.{None}
 use mathlib.Core.Path.{◌≡◌}
-use Prim.Native.Nat.{◌≤◌, ◌-◌}
 use Rattle.bits.specs.Loop.{each}
-use Rattle.bits.specs.Sets.{has, lane_count}
+use Rattle.bits.specs.Sets.{has}
 use Rattle.records.proofs.Stages.{restaged}
-use Rattle.model.specs.declared.lane.Stage.TheVariants.{Idle}
 use Rattle.records.proofs.freed.Given as goal
 
 abbrev pub invariant-loop-lane : goal.invariant-loop-lane
-invariant-loop-lane l = (l.lane ≤ lane_count) × (l.next.line ≡ l.initial.next.line) × (l.next.lanes ≡ each (has l.group) (restaged (λ k s. Idle)) l.lane l.initial.next.lanes)
-
-abbrev pub decreases-loop-lane : goal.decreases-loop-lane
-decreases-loop-lane l = lane_count - l.lane
+invariant-loop-lane l = l.own-items ≡ each (has l.group) (restaged (λ k s. None)) l.lane l.initial.own-items

@@ -1,10 +1,10 @@
 use Rattle.model.specs.Records.{held_in}
 use Rattle.records.proofs.held_in.Goals as goal
 
-pub returns-in-Idle : goal.returns-in-Idle
+pub returns-in-None : goal.returns-in-None
 unfolding held_in
-returns-in-Idle c = rw c.in-Idle.is
+returns-in-None c = rw c.in-None.is
 
-pub returns-in-InProgress : goal.returns-in-InProgress
+pub returns-in-Some : goal.returns-in-Some
 unfolding held_in
-returns-in-InProgress c = rw c.in-InProgress.is
+returns-in-Some c = rw c.in-Some.is

@@ -1,10 +1,10 @@
 use Rattle.model.specs.Records.{is_passing}
 use Rattle.records.proofs.is_passing.Goals as goal
 
-pub returns-in-Idle : goal.returns-in-Idle
+pub returns-in-None : goal.returns-in-None
 unfolding is_passing
-returns-in-Idle c = rw c.in-Idle.is
+returns-in-None c = rw c.in-None.is
 
-pub returns-in-InProgress : goal.returns-in-InProgress
+pub returns-in-Some : goal.returns-in-Some
 unfolding is_passing
-returns-in-InProgress c = rw c.in-InProgress.is c.is_pass.ensures
+returns-in-Some c = rw c.in-Some.is c.is_pass.ensures

@@ -1,10 +1,10 @@
 use Rattle.model.specs.Records.{with_verdict}
 use Rattle.records.proofs.with_verdict.Goals as goal
 
-pub returns-in-Idle : goal.returns-in-Idle
+pub returns-in-None : goal.returns-in-None
 unfolding with_verdict
-returns-in-Idle c = rw (c.in-Idle.is, with_verdict)
+returns-in-None c = rw (c.in-None.is, with_verdict)
 
-pub returns-in-InProgress : goal.returns-in-InProgress
+pub returns-in-Some : goal.returns-in-Some
 unfolding with_verdict
-returns-in-InProgress c = rw (c.in-InProgress.is, with_verdict)
+returns-in-Some c = rw (c.in-Some.is, with_verdict)

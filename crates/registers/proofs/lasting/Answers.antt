@@ -5,4 +5,4 @@ use Rattle.registers.proofs.lasting.Goals as goal
 
 pub returns : goal.returns
 unfolding event_effect
-returns c = bytes-unused _ _ _ _ _ _ _ c.lasting.ensures refl c.without_buffer.ensures
+returns c = bytes-unused _ _ _ _ _ _ _ c.from.ensures refl c.without_buffer.ensures

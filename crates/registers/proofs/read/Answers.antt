@@ -5,4 +5,4 @@ use Rattle.registers.proofs.read.Goals as goal
 
 pub returns : goal.returns
 unfolding event_effect
-returns c = bytes-unused _ _ _ _ _ _ _ c.read.ensures refl c.call.ensures
+returns c = bytes-unused _ _ _ _ _ _ _ c.from.ensures refl c.call.ensures

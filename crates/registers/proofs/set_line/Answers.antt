@@ -5,4 +5,4 @@ use Rattle.registers.proofs.set_line.Goals as goal
 
 pub returns : goal.returns
 unfolding event_effect
-returns c = bytes-unused _ _ _ _ _ _ _ c.set_line.ensures refl c.without_buffer.ensures
+returns c = bytes-unused _ _ _ _ _ _ _ c.from.ensures refl c.without_buffer.ensures

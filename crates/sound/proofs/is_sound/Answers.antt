@@ -1,21 +1,17 @@
 use borrow.Author.Rules.{rules}
-use mathlib.Core.Path.{◌≡◌, ◌∙◌, ap₂}
-use Prim.Native.Nat.{◌-◌}
+use borrow.Author.Tests.{tests}
+use mathlib.Core.Path.{refl, ◌∙◌}
+use Rattle.std.proofs.lemmas.Iterator.{YieldsList-from_range}
+use Rattle.std.proofs.lemmas.Iterator.Search.{all_from_yields_List}
 use Rattle.bits.specs.Choice.{both}
+use Rattle.bits.proofs.Chains.{all_range}
+use Rattle.model.specs.Map.{staged_set0}
+use Rattle.model.specs.View.{view_of}
 use Rattle.model.specs.Sound.{lane_sound, on_fits, is_sound}
-use Rattle.bits.proofs.Tests.{and_both}
-use Rattle.bits.proofs.Turns.{all_begin, all_turn}
-use native.Mathlib.Omega.{arith}
 use Rattle.sound.proofs.is_sound.Goals as goal
-
-pub loop-lane-init : goal.loop-lane-init
-unfolding is_sound
-loop-lane-init c = (search rules, all_begin _)
-
-pub loop-lane-preserved : goal.loop-lane-preserved
-unfolding is_sound
-loop-lane-preserved c = (search rules, all_turn _ _ _ _ c.loop-lane.invariant.1 (and_both _ _ ∙ ap₂ both c.is_lane_sound.ensures c.on_fits.ensures))
 
 pub returns : goal.returns
 unfolding is_sound
-returns c = let e : c.loop-lane.lane ≡ 8 = omega arith in rw e at c.loop-lane.invariant.1
+returns c =
+    all_from_yields_List (λ l. both (lane_sound c.args.image.now (view_of staged_set0 c.args.image.now) c.args.w l) (on_fits c.args.image.now c.args.w l)) _ _ _ c.all.ensures.ran (YieldsList-from_range 0 8 8 refl refl) (λ x b q k. search (rules, tests))
+    ∙ all_range 8 _

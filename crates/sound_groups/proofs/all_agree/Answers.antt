@@ -1,21 +1,16 @@
 use borrow.Author.Rules.{rules}
-use native.Mathlib.Omega.{arith}
-use mathlib.Core.Path.{◌≡◌, ap, ◌∙◌}
-use Prim.Native.Nat.{◌-◌}
-use Rattle.bits.specs.Sets.{every_in}
+use borrow.Author.Tests.{tests}
+use mathlib.Core.Path.{refl, ◌∙◌}
+use Rattle.std.proofs.lemmas.Iterator.{YieldsList-from_range}
+use Rattle.std.proofs.lemmas.Iterator.Search.{all_from_yields_List}
+use Rattle.bits.specs.Choice.{implies}
+use Rattle.bits.specs.Sets.{has, every_in}
+use Rattle.bits.proofs.Chains.{all_range}
 use Rattle.model.specs.Records.{stage_at}
 use Rattle.model.specs.Sound.{agrees}
-use Rattle.bits.proofs.Turns.{all_begin, every_turn}
 use Rattle.sound_groups.proofs.all_agree.Goals as goal
-
-pub loop-lane-init : goal.loop-lane-init
-unfolding every_in
-loop-lane-init c = (search rules, all_begin _)
-
-pub loop-lane-preserved : goal.loop-lane-preserved
-unfolding every_in
-loop-lane-preserved c = (search rules, every_turn _ _ _ _ _ _ c.loop-lane.invariant.1 c.is_in.ensures (c.agrees-agreed.ensures ∙ ap (agrees _) c.stage_at.ensures))
 
 pub returns : goal.returns
 unfolding every_in
-returns c = let e : c.loop-lane.lane ≡ 8 = omega arith in rw e at c.loop-lane.invariant.1
+returns c =
+    all_from_yields_List (λ l. implies (has c.args.p.group l) (agrees c.args.p (stage_at c.args.w l))) _ _ _ c.all.ensures.ran (YieldsList-from_range 0 8 8 refl refl) (λ x b q k. search (rules, tests)) ∙ all_range 8 _

@@ -4,12 +4,12 @@ use Rattle.bits.proofs.Tests.{and_both}
 use Rattle.model.specs.Sound.{stage_fits}
 use Rattle.sound_groups.proofs.stage_fits.Goals as goal
 
-pub returns-in-Idle : goal.returns-in-Idle
+pub returns-in-None : goal.returns-in-None
 unfolding stage_fits
-returns-in-Idle c = rw c.in-Idle.is
+returns-in-None c = rw c.in-None.is
 
-pub returns-in-InProgress : goal.returns-in-InProgress
+pub returns-in-Some : goal.returns-in-Some
 unfolding stage_fits
-returns-in-InProgress c = rw
-    (c.in-InProgress.is, c.is_in.ensures, c.all_agree.ensures, c.settings_fit.ensures, c.verdict_fits.ensures)
+returns-in-Some c = rw
+    (c.in-Some.is, c.is_in.ensures, c.all_agree.ensures, c.settings_fit.ensures, c.verdict_fits.ensures)
     (and_both _ _ ∙ ap₂ both (and_both _ _) (and_both _ _))

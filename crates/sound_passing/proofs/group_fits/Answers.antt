@@ -1,10 +1,10 @@
 use Rattle.model.specs.Sound.{group_fits}
 use Rattle.sound_passing.proofs.group_fits.Goals as goal
 
-pub returns-in-Idle : goal.returns-in-Idle
+pub returns-in-None : goal.returns-in-None
 unfolding group_fits
-returns-in-Idle c = rw c.in-Idle.is
+returns-in-None c = rw c.in-None.is
 
-pub returns-in-InProgress : goal.returns-in-InProgress
+pub returns-in-Some : goal.returns-in-Some
 unfolding group_fits
-returns-in-InProgress c = rw c.in-InProgress.is c.passing_fits.ensures
+returns-in-Some c = rw c.in-Some.is c.passing_fits.ensures

@@ -1,4 +1,3 @@
-use borrow.Author.Rules.{rules}
 use mathlib.Core.Path.{sym, ◌∙◌}
 use Rattle.model.specs.View.{view_of}
 use Rattle.sound_passing.proofs.Groups.{purpose-release, purpose_path, held_first}
@@ -10,7 +9,7 @@ returns-then-is_release c = purpose-release _ _ _ (sym c.is_release.ensures ∙ 
 
 pub held_path-requires : goal.held_path-requires
 unfolding view_of
-held_path-requires c = (search rules, rw c.next_in-first.ensures (held_first _ _ (sym c.is_release.ensures ∙ c.if-is_release.false)))
+held_path-requires c = rw c.next_in-first.ensures (held_first _ _ (sym c.is_release.ensures ∙ c.if-is_release.false))
 
 pub returns : goal.returns
 unfolding view_of

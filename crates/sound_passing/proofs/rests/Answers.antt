@@ -7,10 +7,10 @@ pub returns-then-first-eq-COUNT : goal.returns-then-first-eq-COUNT
 returns-then-first-eq-COUNT c = rests-none _ _ _ (sym c.next_in-first.ensures ∙ c.if-first-eq-COUNT.true)
 
 pub nibble-state-requires : goal.nibble-state-requires
-nibble-state-requires c = (search rules, (first_below _ _ c.next_in-first.ensures c.if-first-eq-COUNT.false))
+nibble-state-requires c = (search rules, first_below _ _ c.next_in-first.ensures c.if-first-eq-COUNT.false)
 
 pub agree_on_state-requires : goal.agree_on_state-requires
-agree_on_state-requires c = (search rules, (first_below _ _ c.next_in-first.ensures c.if-first-eq-COUNT.false))
+agree_on_state-requires c = first_below _ _ c.next_in-first.ensures c.if-first-eq-COUNT.false
 
 pub returns : goal.returns
 returns c = rests_by _ _ _ _ _ _ _ _
@@ -18,5 +18,5 @@ returns c = rests_by _ _ _ _ _ _ _ _
     c.next_in-first.ensures
     c.nibble-state.ensures
     c.agree_on_state.ensures
-    (rw c.of.ensures at c.is_resting-resting.ensures)
+    (rw c.from.ensures at c.is_resting-resting.ensures)
     c.is_release.ensures

@@ -4,10 +4,10 @@ use Rattle.bits.proofs.Tests.{and_both}
 use Rattle.model.specs.View.{fills}
 use Rattle.sound_paths.proofs.fills.Goals as goal
 
-pub returns-in-Missing : goal.returns-in-Missing
+pub returns-in-None : goal.returns-in-None
 unfolding fills
-returns-in-Missing c = rw c.in-Missing.is
+returns-in-None c = rw c.in-None.is
 
-pub returns-in-Found : goal.returns-in-Found
+pub returns-in-Some : goal.returns-in-Some
 unfolding fills
-returns-in-Found c = rw (c.in-Found.is, c.is_in.ensures, c.lanes_from-all.ensures) (and_both _ _ ∙ ap (both _) (and_both _ _))
+returns-in-Some c = rw (c.in-Some.is, c.is_in.ensures, c.lanes_from-all.ensures) (and_both _ _ ∙ ap (both _) (and_both _ _))

@@ -1,4 +1,3 @@
-use borrow.Author.Rules.{rules}
 use mathlib.Core.Path.{ap, sym, ◌∙◌}
 use Rattle.model.specs.View.{app_sel, path_id}
 use Rattle.sound_paths.proofs.Lanes.{held_of}
@@ -7,10 +6,10 @@ use Rattle.sound_paths.proofs.Wholes.{path_by}
 use Rattle.sound_paths.proofs.held_path.Goals as goal
 
 pub is_whole-requires : goal.is_whole-requires
-is_whole-requires c = (search rules, rw c.app_sel-app.ensures (app_lt _), rw c.path_id-id.ensures (id_lt _))
+is_whole-requires c = (rw c.app_sel-app.ensures (app_lt _), rw c.path_id-id.ensures (id_lt _))
 
 pub returns : goal.returns
-returns c = let h = c.held_at-held.ensures ∙ sym (held_of _ _ c.requires.1) in
+returns c = let h = c.held_at-held.ensures ∙ sym (held_of _ _ c.requires) in
     path_by _ _ _ _ _ _ _ _ _
     (c.app_sel-app.ensures ∙ ap app_sel h)
     (c.path_id-id.ensures ∙ ap path_id h)

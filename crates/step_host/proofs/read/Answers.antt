@@ -25,7 +25,7 @@ read-requires c = let g = good_access 128 _ _ (sym c.bad_access.ensures ∙ c.if
 
 pub show_flags-requires : goal.show_flags-requires
 show_flags-requires c = let g = good_access 128 _ _ (sym c.bad_access.ensures ∙ c.if-bad_access.false) in
-    (search rules, g.1)
+    g.1
 
 pub returns : goal.returns
 unfolding event_effect read_effect

@@ -44,7 +44,7 @@ pub write_bytes-written-requires : goal.write_bytes-written-requires
 write_bytes-written-requires c = let eight = c.well_formed.1.1.1.1.0.1.0.1 in
     let g = good_access 8 _ _ (sym c.bad_access.ensures ∙ c.if-bad_access.false) in
     let n = length_taken c.args.count c.args.bytes (omega arith) in
-    (search rules, omega arith)
+    omega arith
 
 pub returns : goal.returns
 unfolding event_effect laid_over

@@ -19,7 +19,7 @@ returns-then-not-is_condition_flag c = refused_leaves _ _ _ _ NoSuchTarget _
     refl c.reply.ensures
 
 pub condition-requires : goal.condition-requires
-condition-requires c = let among = condition-among _ (sym c.is_condition_flag.ensures ∙ not-false _ (ap not c.if-not-is_condition_flag.false)) in (search rules, omega arith)
+condition-requires c = let among = condition-among _ (sym c.is_condition_flag.ensures ∙ not-false _ (ap not c.if-not-is_condition_flag.false)) in omega arith
 
 pub returns : goal.returns
 unfolding event_effect

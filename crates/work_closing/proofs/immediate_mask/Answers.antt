@@ -10,12 +10,12 @@ returns-then-first-ge-COUNT c = sym (none-commissioned _ _ (omega arith) (rw c.n
 
 pub returns-then-is_commissioned : goal.returns-then-is_commissioned
 unfolding pick
-returns-then-is_commissioned c = let state = c.of-state.ensures ∙ ap state_of c.nibble.ensures in
+returns-then-is_commissioned c = let state = c.from-state.ensures ∙ ap state_of c.nibble.ensures in
     let decides = state_decides _ _ c.next_in-first.ensures state c.is_commissioned.ensures in
     rw (c.if-is_commissioned.true, pick) at decides
 
 pub returns-else-is_commissioned : goal.returns-else-is_commissioned
 unfolding pick
-returns-else-is_commissioned c = let state = c.of-state.ensures ∙ ap state_of c.nibble.ensures in
+returns-else-is_commissioned c = let state = c.from-state.ensures ∙ ap state_of c.nibble.ensures in
     let decides = state_decides _ _ c.next_in-first.ensures state c.is_commissioned.ensures in
     rw (c.if-is_commissioned.false, pick) at decides

@@ -3,4 +3,4 @@ use Rattle.model.proofs.lane.Working.idle.Goals as goal
 
 pub returns : goal.returns
 unfolding tab
-returns c = rw c.idle-record.ensures
+returns c = rw c.idle.ensures

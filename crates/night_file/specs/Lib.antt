@@ -1,0 +1,2 @@
+-- The parts of a night file.
+pub mod Parts

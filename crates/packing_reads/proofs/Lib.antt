@@ -1,0 +1,2 @@
+-- A test of every lane by its number.
+pub mod Every
