@@ -35,12 +35,12 @@ fn print_lines(
 ) -> io::Result<()>
     requires { (file_check file.now ≡ Ok count) × (longest_line ≤ length out.old) }
 {
-    let night = night_file::parts(file);
-    night_runs::start_image(night.image, image);
+    let offset = night_file::records_offset(file);
+    night_runs::start_image(file, offset, image);
     let mut working = Working::idle();
     let mut next = 0;
-    while next < night.records.len() {
-        let come = night_runs::play_run(image, working, night, next, out);
+    while next < count {
+        let come = night_runs::play_run(image, working, file, offset, next, count, out);
         rt.write_all(&out[..come.reached.at])?;
         next = come.next;
         working = come.reached.working;

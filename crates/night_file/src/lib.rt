@@ -6,7 +6,7 @@ ghost use Rattle.bits.specs.Choice.{both};
 ghost use Rattle.bits.specs.Loop.{all_below};
 ghost use Rattle.model.specs.Map.{image_length};
 ghost use Rattle.model.specs.Refusals.{first_of, start_refusals};
-ghost use Rattle.model.specs.File.{edition_of, is_header, is_whole_length, record_count, is_record, laid_out, file_check, records_offset, record_limit, record_length};
+ghost use Rattle.model.specs.File.{later_editions, edition_among, edition_of, is_header, is_whole_length, record_count, is_record, laid_out, file_check, image_offset, records_offset, record_limit, record_length};
 ghost use Rattle.night_records.specs.Edition.{row_of};
 ghost use Rattle.night_file.specs.Parts.{IsNight};
 
@@ -23,7 +23,7 @@ const EDITION_AT: usize = 2;
 
 const COUNT_AT: usize = 4;
 
-const IMAGE_OFFSET: usize = 16;
+pub const IMAGE_OFFSET: usize = 16;
 
 pub type Header = [u8; IMAGE_OFFSET];
 
@@ -31,7 +31,7 @@ const RECORD_LIMIT: u32 = 5000;
 
 // The number of an edition.
 #[tactic(auto, unfolding(model::specs::File::edition_among, bits::specs::Choice::pick))]
-fn number_of(edition: Edition) -> u8
+pub fn number_of(edition: Edition) -> u8
     ensures { result ≡ (row_of edition).number }
 {
     match edition {
@@ -42,13 +42,12 @@ fn number_of(edition: Edition) -> u8
     }
 }
 
-// How many bytes of the image an edition carries.
-#[tactic(auto, unfolding(model::specs::File::edition_among, bits::specs::Choice::pick))]
-pub fn image_bytes(edition: Edition) -> usize
-    ensures row { result ≡ (row_of edition).image_bytes }
+// How many bytes of the image the edition of a number carries.
+pub fn image_bytes(edition: u8) -> usize
+    ensures row { result ≡ (edition_among later_editions edition).image_bytes }
     ensures fits { result ≤ image_length }
 {
-    match edition {
+    match Edition::from(edition) {
         Edition::First => 768,
         Edition::Second => 896,
         Edition::Third => 896,
@@ -56,31 +55,42 @@ pub fn image_bytes(edition: Edition) -> usize
     }
 }
 
-// The edition that a header names.
-fn edition_in(header: &Header) -> Edition
-    ensures { row_of result ≡ edition_of header.now }
+// The number of the edition that a header names.
+pub fn edition_in(header: &[u8]) -> u8
+    requires { image_offset ≤ length header.now }
+    ensures { result ≡ get_or header.now 2 0 }
 {
-    Edition::from(header[EDITION_AT])
+    header[EDITION_AT]
+}
+
+// Where the records of a file begin: they follow its image.
+pub fn records_offset(header: &[u8]) -> usize
+    requires { image_offset ≤ length header.now }
+    ensures { result ≡ records_offset (edition_of header.now) }
+{
+    IMAGE_OFFSET + image_bytes(edition_in(header))
 }
 
 // How many records a header counts.
-pub fn record_count(header: &Header) -> u32
+pub fn record_count(header: &[u8]) -> u32
+    requires { image_offset ≤ length header.now }
     ensures { result ≡ record_count header.now }
 {
     bits_words::word4(header, COUNT_AT)
 }
 
 // Whether a header is as it must be, with no more records than a limit.
-pub fn is_header(header: &Header, limit: u32) -> bool
+pub fn is_header(header: &[u8], limit: u32) -> bool
+    requires { image_offset ≤ length header.now }
     ensures { result ≡ is_header limit header.now }
 {
     let edition = edition_in(header);
     let letters = (header[0] == LETTER_W) & (header[1] == LETTER_L);
-    let known = (header[EDITION_AT] == number_of(edition)) & (header[3] == 0);
+    let known = (edition == number_of(Edition::from(edition))) & (header[3] == 0);
     let count = record_count(header);
     let image_at = bits_words::word4(header, 8) as usize;
     let records_at = bits_words::word4(header, 12) as usize;
-    let offset = IMAGE_OFFSET + image_bytes(edition);
+    let offset = records_offset(header);
     letters & (known & ((count <= limit) & ((image_at == IMAGE_OFFSET) & (records_at == offset))))
 }
 
@@ -88,11 +98,11 @@ pub fn is_header(header: &Header, limit: u32) -> bool
 fn is_framed(file: &[u8]) -> bool
     ensures { result ≡ both (is_header record_limit file.now) (is_whole_length file.now) }
 {
-    let Some(header) = file.first_chunk() else {
+    let Some(header) = file.first_chunk::<IMAGE_OFFSET>() else {
         return false;
     };
-    let offset = IMAGE_OFFSET + image_bytes(edition_in(header));
-    let whole = file.len() == offset + RECORD_LENGTH * (record_count(header) as usize);
+    let whole = file.len()
+        == records_offset(header) + RECORD_LENGTH * (record_count(header) as usize);
     is_header(header, RECORD_LIMIT) & whole
 }
 
@@ -109,12 +119,12 @@ pub fn parts(file: &[u8]) -> Night<'_>
     requires { length file.now ≡ records_offset (edition_of file.now) + record_length * record_count file.now }
     ensures { IsNight file.now result.edition result.image.now result.records.now }
 {
-    let (header, rest) = file.split_first_chunk().unwrap();
+    let (header, rest) = file.split_first_chunk::<IMAGE_OFFSET>().unwrap();
     let edition = edition_in(header);
     let (image, rest) = rest.split_at(image_bytes(edition));
     let (records, _) = rest.as_chunks();
     Night {
-        edition,
+        edition: Edition::from(edition),
         image,
         records,
     }
@@ -124,8 +134,9 @@ pub fn parts(file: &[u8]) -> Night<'_>
 fn are_records(records: &[Record], edition: Edition) -> bool
     ensures { result ≡ all_below (length records.now) (λ k. is_record (row_of edition) (get_or records.now k [])) }
 {
+    let number = number_of(edition);
     for record in records {
-        if !night_records::is_record(record, edition) {
+        if !night_records::is_record(record, number) {
             return false;
         }
     }

@@ -7,17 +7,15 @@ ghost use Rattle.model.specs.Work.{early};
 ghost use Rattle.model.specs.Step.{read_count, step};
 ghost use Rattle.model.specs.State.{state_with};
 ghost use Rattle.model.specs.Outcome.{list_room};
-ghost use Rattle.model.specs.File.{event_of};
+ghost use Rattle.model.specs.File.{later_editions, edition_among, event_of, record_length};
 ghost use Rattle.night_lines.specs.Lines.{Turns};
 ghost use Rattle.model.specs.Text.{decimal};
 ghost use Rattle.night_text.specs.Buffer.{line_room};
-ghost use Rattle.night_records.specs.Edition.{row_of};
 
 use access_limits::READ_LIMIT;
 use model::event::Call;
 use model::image::Image;
 use model::lane::Working;
-use night_records::{Edition, Record};
 
 // The longest line: an index of ten digits, an answer, 128 bytes.
 pub const LONGEST_LINE: usize = 397;
@@ -62,13 +60,13 @@ pub fn turn(
     image: &mut Image,
     reached: Reached,
     buffer: &mut [u8; READ_LIMIT],
-    bytes: &Record,
-    edition: Edition,
+    bytes: &[u8],
+    edition: u8,
     index: u32,
     out: &mut [u8],
 ) -> Reached
-    requires { reached.at + line_room (length (decimal index)) ≤ length out.old }
-    ensures { Turns (step early list_room (state_with image.old reached.working) (event_of (row_of edition) bytes.now)) index reached.at buffer.old buffer.new out.old out.new image.new result }
+    requires { (record_length ≤ length bytes.now) × (reached.at + line_room (length (decimal index)) ≤ length out.old) }
+    ensures { Turns (step early list_room (state_with image.old reached.working) (event_of (edition_among later_editions edition) bytes.now)) index reached.at buffer.old buffer.new out.old out.new image.new result }
 {
     let event = night_events::event_of(bytes, edition);
     let asked = read_count(event.call);

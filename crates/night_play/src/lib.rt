@@ -25,12 +25,13 @@ pub fn play(
     requires { (length night.records.now ≤ record_limit) × (line_room 4 * length night.records.now ≤ length out.old) }
     ensures { Puts 0 (text_after (state_with image.old idle_working) (row_of night.entry.edition) night.entry.records.now (length night.entry.records.now)) out.old out.new result }
 {
+    let edition = night_file::number_of(night.edition);
     let mut reached = Reached {
         at: 0,
         working: Working::idle(),
     };
     for (k, record) in night.records.iter().enumerate() {
-        reached = night_lines::turn(image, reached, buffer, record, night.edition, k as u32, out);
+        reached = night_lines::turn(image, reached, buffer, record, edition, k as u32, out);
     }
     reached.at
 }

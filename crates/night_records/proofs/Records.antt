@@ -46,6 +46,14 @@ no_kind n h k p q =
     let b = leb-true k line_kind q in
     ne_eqb n k (grind arith)
 
+-- ---- the number of an edition names it again
+pub named_again : (e : Edition) → edition_among file.later_editions (row_of e).number ≡ row_of e
+unfolding edition_among pick
+named_again First = refl
+named_again Second = refl
+named_again Third = refl
+named_again Fourth = refl
+
 -- ---- one record
 -- a record of a listed kind is one by the bytes that the kind does not use
 pub record_by : (e : file.Edition) (used : ℕ) (bytes : List ℕ) (r : Bool) → r ≡ is_clear_from used bytes → used_bytes e.forms bytes ≡ used → 0 < used → r ≡ is_record e bytes

@@ -1,11 +1,11 @@
 // Records of a night file: whether twelve bytes are one, in an edition.
 #![tactic(auto)]
 
-ghost use Rattle.std.specs.Prelude.{◌≡◌, ◌*◌, ◌^◌, ◌≤◌, ◌<◌, ltb};
+ghost use Rattle.std.specs.Prelude.{◌≡◌, ◌*◌, ◌^◌, ◌≤◌, ◌<◌, ltb, length};
 ghost use Rattle.bits.specs.Choice.{pick};
-ghost use Rattle.model.specs.File.{written_bytes, is_record};
+ghost use Rattle.model.specs.File.{later_editions, edition_among, record_length, written_bytes, is_record};
 ghost use Rattle.night_records.specs.Clear.{tail_of, is_clear_from, front_of, condition_limit, power_limit, front_limit};
-ghost use Rattle.night_records.specs.Edition.{edition_number, row_of, IsEditionOf};
+ghost use Rattle.night_records.specs.Edition.{edition_number, IsEditionOf};
 ghost use Rattle.night_records.specs.Kind.{Names};
 
 pub const RECORD_LENGTH: usize = 12;
@@ -85,7 +85,8 @@ fn data_bytes(count: u8) -> usize
 
 // The last eight bytes of a record as one number: the compiler makes one load of it.
 #[tactic(auto, unfolding(crate::specs::Clear::low_first))]
-fn tail_of(bytes: &Record) -> u64
+fn tail_of(bytes: &[u8]) -> u64
+    requires { record_length ≤ length bytes.now }
     ensures { result ≡ tail_of bytes.now }
 {
     u64::from_le_bytes([
@@ -102,16 +103,16 @@ fn byte_limit(n: usize) -> u64
 }
 
 // Whether a record's bytes from the fourth on are zeros.
-fn is_clear_from_3(bytes: &Record, tail: u64) -> bool
-    requires { tail ≡ tail_of bytes.now }
+fn is_clear_from_3(bytes: &[u8], tail: u64) -> bool
+    requires { (record_length ≤ length bytes.now) × (tail ≡ tail_of bytes.now) }
     ensures { result ≡ is_clear_from 3 bytes.now }
 {
     (bytes[3] == 0) & (tail == 0)
 }
 
 // Whether a write's bytes behind its data are zeros.
-fn is_write(bytes: &Record, tail: u64) -> bool
-    requires { tail ≡ tail_of bytes.now }
+fn is_write(bytes: &[u8], tail: u64) -> bool
+    requires { (record_length ≤ length bytes.now) × (tail ≡ tail_of bytes.now) }
     ensures { result ≡ is_clear_from (written_bytes bytes.now) bytes.now }
 {
     let n = data_bytes(bytes[2]);
@@ -123,7 +124,8 @@ fn is_write(bytes: &Record, tail: u64) -> bool
 
 // The three bytes behind a record's kind as one number, the first of them lowest.
 #[tactic(auto, unfolding(crate::specs::Clear::low_first))]
-fn front_of(bytes: &Record) -> u32
+fn front_of(bytes: &[u8]) -> u32
+    requires { record_length ≤ length bytes.now }
     ensures { result ≡ front_of bytes.now }
 {
     u32::from_le_bytes([bytes[1], bytes[2], bytes[3], 0])
@@ -168,9 +170,11 @@ fn front_limit(kind: Kind, edition: Edition) -> u32
 }
 
 // Whether a record is of a kind that an edition lists, with zeros in the bytes that it does not use, and its line is to be on or off.
-pub fn is_record(bytes: &Record, edition: Edition) -> bool
-    ensures { result ≡ is_record (row_of edition) bytes.now }
+pub fn is_record(bytes: &[u8], edition: u8) -> bool
+    requires { record_length ≤ length bytes.now }
+    ensures { result ≡ is_record (edition_among later_editions edition) bytes.now }
 {
+    let edition = Edition::from(edition);
     let Ok(kind) = Kind::try_from(bytes[0]) else {
         return false;
     };

@@ -24,8 +24,9 @@ fn print_good(file: &[u8], count: u32, out: &mut [u8]) -> Option<usize>
     }
     let mut image = [0u8; IMAGE_LENGTH];
     let mut buffer = [0u8; READ_LIMIT];
+    let offset = night_file::records_offset(file);
+    night_runs::start_image(file, offset, &mut image);
     let night = night_file::parts(file);
-    night_runs::start_image(night.image, &mut image);
     let n = night_play::play(&mut image, &mut buffer, night, out);
     Some(n)
 }

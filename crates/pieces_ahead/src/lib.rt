@@ -9,7 +9,6 @@ ghost use Rattle.pieces_ahead.specs.Standing.{standing, between_records, Stands,
 use model::image::Image;
 use model::stream::Phase;
 use night_lines::{LONGEST_LINE, Reached};
-use night_records::Edition;
 use pieces_carried::{Carried, Taken};
 use pieces_records::Played;
 
@@ -34,7 +33,7 @@ fn image_ahead(image: &mut Image, f: Feeding, come: u16, records: u32, piece: &[
     ensures { GoesSilently piece.now f image.old result image.new }
 {
     let at = come as usize;
-    let length = night_file::image_bytes(Edition::from(f.come.carried.edition));
+    let length = night_file::image_bytes(f.come.carried.edition);
     if length <= at {
         return f;
     }
@@ -95,7 +94,7 @@ fn records_ahead(
             working: f.come.carried.working,
         },
     };
-    let played = pieces_records::play(image, first, Edition::from(edition), records, piece, out);
+    let played = pieces_records::play(image, first, edition, records, piece, out);
     between(edition, records, played)
 }
 

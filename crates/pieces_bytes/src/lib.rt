@@ -10,7 +10,7 @@ use model::answer::Answer;
 use model::image::Image;
 use model::stream::Phase;
 use night_lines::Reached;
-use night_records::{Edition, Record};
+use night_records::Record;
 use pieces_carried::{Carried, Taken};
 use pieces_records::Played;
 
@@ -38,8 +38,7 @@ fn take_whole_record(
             working: c.working,
         },
     };
-    let edition = Edition::from(c.edition);
-    let played = pieces_records::play(image, first, edition, next + 1, bytes, out);
+    let played = pieces_records::play(image, first, c.edition, next + 1, bytes, out);
     if played.next == next {
         return pieces_carried::refuse(Answer::Malformed, c, out, at);
     }

@@ -13,7 +13,6 @@ use model::answer::Answer;
 use model::image::Image;
 use model::lane::Working;
 use model::stream::Phase;
-use night_records::Edition;
 use pieces_carried::{Carried, Taken};
 
 // A byte in its place of the image.
@@ -71,7 +70,7 @@ pub fn take_image(
     ensures { Leaves (took_image (carried_by c image.old) come records (set image.old come b)) at out.old out.new image.new result }
 {
     put_image_byte(image, come as usize, b);
-    let length = night_file::image_bytes(Edition::from(c.edition));
+    let length = night_file::image_bytes(c.edition);
     if (come as usize) + 1 < length {
         let carried = more_image(c, come, records);
         return Taken { at, carried };

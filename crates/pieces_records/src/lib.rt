@@ -2,13 +2,13 @@
 #![tactic(auto)]
 
 ghost use Rattle.std.specs.Prelude.{◌≡◌, ◌-◌, ◌≤◌, length};
-ghost use Rattle.night_records.specs.Edition.{row_of};
+ghost use Rattle.model.specs.File.{later_editions, edition_among};
 ghost use Rattle.pieces_records.specs.Running.{runs, running};
 
 use access_limits::READ_LIMIT;
 use model::image::Image;
 use night_lines::{LONGEST_LINE, Reached};
-use night_records::{Edition, RECORD_LENGTH};
+use night_records::RECORD_LENGTH;
 
 // Where a run stands: the bytes taken, the next record's index, and what it has reached.
 #[derive(Clone, Copy)]
@@ -32,19 +32,19 @@ fn standing_at(taken: usize, next: u32, reached: Reached) -> Played
 pub fn play(
     image: &mut Image,
     p: Played,
-    edition: Edition,
+    edition: u8,
     records: u32,
     bytes: &[u8],
     out: &mut [u8],
 ) -> Played
     requires { (p.taken ≤ length bytes.now) × (p.reached.at ≤ length out.old) × (p.next ≤ records) }
-    ensures { running result image.new out.new ≡ runs (row_of edition) (records - p.next) (running p image.old out.old) bytes.now }
+    ensures { running result image.new out.new ≡ runs (edition_among later_editions edition) (records - p.next) (running p image.old out.old) bytes.now }
 {
     let mut buffer = [0u8; READ_LIMIT];
     let mut taken = p.taken;
     let mut reached = p.reached;
     for next in p.next..records {
-        let Some(record) = bytes[taken..].first_chunk() else {
+        let Some(record) = bytes[taken..].first_chunk::<RECORD_LENGTH>() else {
             return standing_at(taken, next, reached);
         };
         if out.len() - reached.at < LONGEST_LINE {

@@ -8,4 +8,4 @@ use Rattle.night_records.specs.Edition.{row_of}
 use Rattle.night_file.proofs.are_records.Given as goal
 
 abbrev pub invariant-loop-record : goal.invariant-loop-record
-invariant-loop-record l = all_below l.record-index (λ k. is_record (row_of l.edition) (get_or l.records k [])) ≡ true
+invariant-loop-record l = all_below l.record-index (λ k. is_record (row_of l.fn.edition) (get_or l.records k [])) ≡ true

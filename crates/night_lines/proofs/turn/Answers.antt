@@ -9,12 +9,11 @@ use Rattle.model.specs.Step.{read_count, step}
 use Rattle.model.specs.State.{State, state_with}
 use Rattle.model.specs.Outcome.{list_room, step_outcome}
 use Rattle.contracts.specs.Forms.{IsOutcome}
-use Rattle.model.specs.File.{event_of}
+use Rattle.model.specs.File.{later_editions, edition_among, event_of}
 use Rattle.contracts.specs.declared.Returned.{Returned}
 use Rattle.model.specs.declared.event.Event.{Event}
 use lib.Dec.{eqb}
 use Rattle.bits.specs.Choice.{pick}
-use Rattle.night_records.specs.Edition.{row_of}
 use Rattle.night_lines.specs.Lines.{shown_by}
 use Rattle.night_lines.proofs.ReadBytes.{shown_most, shown_line, shown_fits}
 use Rattle.model.specs.Access.{read_limit}
@@ -35,7 +34,7 @@ pub put_line-at-requires : goal.put_line-at-requires
 unfolding step_outcome
 put_line-at-requires c = let a = c.args in
     let s = state_with a.image.now a.reached.working in
-    let e = event_of (row_of a.edition) a.bytes.now in
+    let e = event_of (edition_among later_editions a.edition) a.bytes.now in
     let l = stepped s _ e a.buffer.now c.event_of-event.ensures (omega arith) c.step-left.ensures in
     let n = c.from-number.ensures ∙ ap number l.answer in
     let m = shown_count c.from-number.result _ e c.shown-count.ensures c.read_count-asked.ensures c.event_of-event.ensures in (
@@ -47,7 +46,7 @@ pub returns : goal.returns
 unfolding step_outcome
 returns c = let a = c.args in
     let s = state_with a.image.now a.reached.working in
-    let e = event_of (row_of a.edition) a.bytes.now in
+    let e = event_of (edition_among later_editions a.edition) a.bytes.now in
     let l = stepped s _ e a.buffer.now c.event_of-event.ensures (omega arith) c.step-left.ensures in
     let n = c.from-number.ensures ∙ ap number l.answer in
     let m = shown_count c.from-number.result _ e c.shown-count.ensures c.read_count-asked.ensures c.event_of-event.ensures in

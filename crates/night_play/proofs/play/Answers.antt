@@ -4,6 +4,7 @@ use Rattle.model.specs.Records.{idle_working}
 use Rattle.model.specs.State.{state_with}
 use lib.ListN.{length}
 use Rattle.night_records.specs.Edition.{row_of}
+use Rattle.night_records.proofs.Records.{named_again}
 use Rattle.night_text.proofs.Lines.{length_index}
 use Rattle.night_play.proofs.Records.{state-none, text-none, turn_state, turn_text, turn_room}
 use borrow.Author.Rules.{rules}
@@ -26,11 +27,11 @@ loop-k-preserved c = let a = c.args in
     let s = state_with a.image.now idle_working in
     let row = row_of a.night.edition in
     let i = c.loop-k.invariant in
-    let t = c.turn-reached in
+    let t = rw (c.number_of-edition.ensures, named_again) at c.turn-reached.ensures in
     record {
-      room = omega (arith, turn_room s row a.night.records.now _ _ _ _ _ _ _ _ _ _ i.state t.ensures (omega arith));
-      state = turn_state s row a.night.records.now _ _ _ _ _ _ _ _ _ _ i.state t.ensures;
-      text = turn_text s row a.night.records.now _ _ _ _ _ _ _ _ _ _ i.state t.ensures _ (omega arith) i.text;
+      room = omega (arith, turn_room s row a.night.records.now _ _ _ _ _ _ _ _ _ _ i.state t (omega arith));
+      state = turn_state s row a.night.records.now _ _ _ _ _ _ _ _ _ _ i.state t;
+      text = turn_text s row a.night.records.now _ _ _ _ _ _ _ _ _ _ i.state t _ (omega arith) i.text;
     }
 
 pub returns : goal.returns

@@ -9,4 +9,4 @@ use Rattle.night_records.proofs.is_clear_from_3.Goals as goal
 pub returns : goal.returns
 returns c = let bytes = c.args.bytes.now in
     let none = tail_none bytes (search rules) in
-    clear_step 3 bytes _ _ (omega arith) refl (ap (λ (t : ℕ). eqb t 0) c.requires ∙ none)
+    clear_step 3 bytes _ _ (omega arith) refl (ap (λ (t : ℕ). eqb t 0) c.requires.1 ∙ none)

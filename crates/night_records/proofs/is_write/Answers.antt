@@ -1,3 +1,4 @@
+use borrow.Author.Rules.{rules}
 use native.Mathlib.Omega.{arith}
 use mathlib.Core.Path.{◌≡◌}
 use Prim.Native.Nat.{◌+◌, ◌-◌}
@@ -12,6 +13,6 @@ returns-then-n-eq0 c = rw (← c.data_bytes-n.ensures.0, c.if-n-eq0.true) c.is_c
 pub returns : goal.returns
 unfolding written_bytes
 returns c = let n = c.data_bytes-n.result in
-    let below = tail_below c.args.bytes.now c.fits-bytes (n - 1) in
+    let below = tail_below c.args.bytes.now (search rules) (n - 1) in
     let e : 4 + (n - 1) ≡ 3 + n = omega arith in
-    rw (← c.data_bytes-n.ensures.0, ← e, c.byte_limit.ensures, c.requires) below
+    rw (← c.data_bytes-n.ensures.0, ← e, c.byte_limit.ensures, c.requires.1) below

@@ -5,10 +5,9 @@ use lib.ListN.{length}
 use mathlib.Core.Bool.{false}
 use mathlib.Core.List.{List}
 use Rattle.model.specs.Map.{Image}
-use Rattle.model.specs.File.{Edition, record_length}
+use Rattle.model.specs.File.{Edition, later_editions, edition_among, record_length}
 use Rattle.night_lines.specs.declared.Reached.{Reached}
 use Rattle.pieces_records.specs.declared.Played.{Played}
-use Rattle.night_records.specs.Edition.{row_of}
 use Rattle.night_text.proofs.Laid.{puts_within}
 use Rattle.night_text.proofs.Lines.{length_any_index}
 use Rattle.pieces_records.specs.Running.{Running, can_play, runs, running}
@@ -48,7 +47,7 @@ turn-reached-requires c = omega (arith, length_any_index c.loop-next.next)
 pub loop-next-preserved : goal.loop-next-preserved
 loop-next-preserved c =
     let bytes = c.args.bytes.now in
-    let e = row_of c.args.edition in
+    let e = edition_among later_editions c.args.edition in
     let l = c.loop-next in
     let i = l.invariant in
     let p = stood l.taken l.next l.reached in

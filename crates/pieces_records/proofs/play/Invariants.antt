@@ -1,7 +1,7 @@
 use mathlib.Core.Path.{◌≡◌}
 use Prim.Native.Nat.{◌-◌, ◌≤◌}
 use lib.ListN.{length}
-use Rattle.night_records.specs.Edition.{row_of}
+use Rattle.model.specs.File.{later_editions, edition_among}
 use Rattle.pieces_records.specs.Running.{runs, running}
 use Rattle.pieces_records.proofs.play.Given as goal
 
@@ -10,6 +10,6 @@ invariant-loop-next l =
     record {
       within : l.taken ≤ length l.bytes;
       fits : l.reached.at ≤ length l.out;
-      same : runs (row_of l.edition) (l.records - l.next) (running (record { taken = l.taken; next = l.next; reached = l.reached }) l.image l.out) l.bytes
-          ≡ runs (row_of l.edition) (l.records - l.fn.p.next) (running l.fn.p l.initial.image l.initial.out) l.bytes;
+      same : runs (edition_among later_editions l.edition) (l.records - l.next) (running (record { taken = l.taken; next = l.next; reached = l.reached }) l.image l.out) l.bytes
+          ≡ runs (edition_among later_editions l.edition) (l.records - l.fn.p.next) (running l.fn.p l.initial.image l.initial.out) l.bytes;
     }
