@@ -74,8 +74,8 @@ pub fn write_each(image: &mut Image, w: Working, address: u8, bytes: &[u8]) -> W
     ensures { IsState (bytes_written_state address bytes.now (state_with image.old w)) image.new result }
 {
     let mut next = w;
-    for (i, byte) in bytes.iter().enumerate() {
-        next = write_byte(image, next, (address as usize) + i, *byte);
+    for i in 0..bytes.len() {
+        next = write_byte(image, next, (address as usize) + i, bytes[i]);
     }
     next
 }
@@ -107,8 +107,8 @@ fn put_bytes(image: &mut Image, start: usize, offset: usize, bytes: &[u8])
     requires { (start + 128 ≤ image_length) × (offset + length bytes.now ≤ 128) }
     ensures { image.new ≡ bytes_put (start + offset) bytes.now image.old }
 {
-    for (i, byte) in bytes.iter().enumerate() {
-        put_byte(image, start, offset + i, *byte);
+    for i in 0..bytes.len() {
+        put_byte(image, start, offset + i, bytes[i]);
     }
 }
 

@@ -1,13 +1,15 @@
 -- What a call leaves once the refusals of its entry are known. Assumes nothing.
-use mathlib.Core.Path.{◌≡◌, refl, ap, ◌∙◌}
+use mathlib.Core.Path.{◌≡◌, refl, sym, ap, ◌∙◌}
 use mathlib.Core.Bool.{true, false}
-use mathlib.Core.List.{List, [], ◌∷◌}
+use mathlib.Core.List.{List, [], ◌∷◌, ◌++◌, append-nil}
 use Prim.Native.Nat.{ℕ}
 use native.Mathlib.Omega.{arith}
-use lib.ListN.{length}
+use lib.ListN.{length, take, drop}
+use lib.Seq.{take_all}
 use Rattle.bits.specs.Choice.{pick}
 use Rattle.bits.proofs.Tests.{pick_true, pick-false}
-use Rattle.model.specs.Map.{Image}
+use Rattle.std.proofs.lemmas.List.{drop_all}
+use Rattle.model.specs.Map.{Image, image_length}
 use Rattle.model.specs.Answers.{is_done}
 use Rattle.model.specs.Records.{idle_working}
 use Rattle.model.specs.State.{State}
@@ -22,6 +24,13 @@ use Rattle.contracts.specs.declared.Returned.{Returned}
 use Rattle.model.specs.declared.event.Call.{Call}
 use Rattle.model.specs.declared.event.Event.{Event}
 use Rattle.contracts.specs.Asked.{asked}
+
+-- ---- an image cut behind its last byte: its front is all of it, and nothing is behind
+pub front_whole : (x y : Image) → length x ≡ image_length → y ≡ take image_length x → y ≡ x
+front_whole x y h e = e ∙ take_all image_length x (omega (arith, h))
+
+pub none_behind : (x y rest : Image) → length x ≡ image_length → rest ≡ drop image_length x → y ≡ y ++ rest
+none_behind x y rest h e = sym (ap (λ t. y ++ t) (e ∙ drop_all image_length x (omega (arith, h))) ∙ append-nil y)
 
 -- ---- start
 module _ (x : Image) where

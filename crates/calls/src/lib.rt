@@ -9,6 +9,7 @@ ghost use Rattle.model.specs.Outcome.{start_outcome, call_outcome};
 use contracts::Returned;
 use model::answer::Answer;
 use model::event::Event;
+use model::image::IMAGE_LENGTH;
 use model::lane::Working;
 
 // Start with an image: what stays of it, and all lanes idle.
@@ -16,9 +17,10 @@ pub fn start(image: &mut [u8]) -> Returned
     ensures { IsOutcome (start_outcome image.old) result image.new [] }
 {
     let idle = Working::idle();
-    let Some(image) = image.as_mut_array() else {
+    if image.len() != IMAGE_LENGTH {
         return contracts::reply(Answer::WrongLength, idle);
-    };
+    }
+    let (image, _) = image.split_first_chunk_mut().unwrap();
     let answer = start_image::refusal(image);
     if answer != Answer::Done {
         return contracts::reply(answer, idle);
@@ -31,9 +33,10 @@ pub fn start(image: &mut [u8]) -> Returned
 pub fn call(image: &mut [u8], w: Working, event: Event, buffer: &mut [u8]) -> Returned
     ensures { IsOutcome (call_outcome (state_with image.old w) buffer.old event) result image.new buffer.new }
 {
-    let Some(image) = image.as_mut_array() else {
+    if image.len() != IMAGE_LENGTH {
         return contracts::reply(Answer::WrongLength, w);
-    };
+    }
+    let (image, _) = image.split_first_chunk_mut().unwrap();
     let answer = refusals::refusal(image, w);
     if answer != Answer::Done {
         return contracts::reply(answer, w);

@@ -1,12 +1,10 @@
--- Sums of bytes: those of a list's values and of numbers in a row, and how large they get. Assumes nothing.
+-- Sums of bytes: those of numbers in a row, and how large they get. Assumes nothing.
 use mathlib.Core.Path.{◌≡◌, refl, sym, ap, ◌∙◌}
 use mathlib.Core.List.{List, [], ◌∷◌}
-use Prim.Native.Nat.{ℕ, zero, suc, ◌+◌, ◌-◌, ◌*◌, ◌≤◌, ◌<◌}
+use Prim.Native.Nat.{ℕ, zero, suc, ◌+◌, ◌*◌, ◌≤◌, ◌<◌}
 use native.Mathlib.Omega.{arith}
-use lib.ListN.{length, get_or, take, drop}
-use lib.Seq.{length-take-le}
+use lib.ListN.{length, get_or}
 use Rattle.std.specs.List.{sum_by, range_with_len}
-use Rattle.std.proofs.lemmas.List.{get_or-drop, get_or-take, length-drop}
 use Rattle.std.proofs.lemmas.List.FromFn.{length-range_with_len, get_or-range_with_len}
 use Rattle.std.proofs.lemmas.List.Sums.{sum_by-cons}
 use Rattle.model.specs.Commands.{sum_of}
@@ -27,13 +25,6 @@ sum_list : {A : Type 0} (h : A → ℕ) (d : A) (ys : List A) → sum_by h ys �
 unfolding sum_of
 sum_list h d [] = refl
 sum_list h d (y ∷ ys) = sum_by-cons h y ys ∙ ap (λ s. h y + s) (sum_list h d ys) ∙ sym (sum_front (length ys) (λ k. h (get_or (y ∷ ys) k d)))
-
--- a part of a list
-pub sum_part : (x : List ℕ) (i n : ℕ) → i + n ≤ length x → sum_by (λ b. b) (take (i + n - i) (drop i x)) ≡ sum_of n (λ k. get_or x (i + k) 0)
-sum_part x i n h =
-    let whole : i + n - i ≡ n = omega arith in
-    let long : length (take n (drop i x)) ≡ n = length-take-le n (drop i x) (omega (arith, length-drop i x)) in
-    rw whole (sum_list (λ b. b) 0 (take n (drop i x)) ∙ rw long (sum_ext n _ _ (λ k b. get_or-take n (drop i x) k 0 b ∙ get_or-drop i x k 0)))
 
 -- numbers in a row
 pub sum_range : (h : ℕ → ℕ) (n : ℕ) → sum_by h (range_with_len 0 n) ≡ sum_of n h

@@ -26,10 +26,7 @@ fn sum(image: &[u8], from: usize, count: usize) -> u16
     requires { (from + count ≤ length image.now) × (count ≤ body_limit) }
     ensures { result ≡ sum_of count (λ k. get_or image.now (from + k) 0) }
 {
-    image[from..from + count]
-        .iter()
-        .map(|byte| u16::from(*byte))
-        .sum()
+    (0..count).map(|k| u16::from(image[from + k])).sum()
 }
 
 // The ones' complement of a sum's low byte.

@@ -9,6 +9,7 @@ ghost use Rattle.door_answers.specs.Door.{returned_for, door_start_refusals, str
 
 use contracts::Returned;
 use model::answer::Answer;
+use model::image::IMAGE_LENGTH;
 use packing::STATE_LENGTH;
 
 // The answer's number, and the lanes to be commissioned in the byte above it.
@@ -20,12 +21,11 @@ pub fn answered(answer: Answer, mask: u8) -> u32
 }
 
 // The working state that a call handed back laid over the state, and its answer and mask as one number.
-#[tactic(auto, using(packing::proofs::States::packed_front))]
 pub fn hand_back(state: &mut [u8], left: Returned) -> u32
     requires { state_length ≤ length state.old }
     ensures { (result ≡ returned_for left.answer left.mask) × (state.new ≡ laid_over (packed left.working) state.old) }
 {
-    packing_state::pack(state.first_chunk_mut().unwrap(), left.working);
+    packing_state::pack(state, left.working);
     answered(left.answer, left.mask)
 }
 
@@ -47,9 +47,10 @@ pub fn start_refusal(image: &[u8], room: usize) -> Answer
 pub fn strange_refusal(image: &[u8]) -> Answer
     ensures { result ≡ first_of (strange_refusals image.now) }
 {
-    let Some(image) = image.as_array() else {
+    if image.len() != IMAGE_LENGTH {
         return Answer::WrongLength;
-    };
+    }
+    let image = start_image::whole(image);
     if start_image::is_flat(image) {
         return Answer::FlatMemory;
     }

@@ -1,7 +1,7 @@
 // The events that firmware's arguments ask for, where they differ from those of the registers: a write's bytes are lent, and the line is a number.
 #![tactic(auto)]
 
-ghost use Rattle.std.specs.Prelude.{◌≡◌, not, eqb};
+ghost use Rattle.std.specs.Prelude.{◌≡◌, not, eqb, get_or};
 ghost use Rattle.model.specs.declared.event.Call.TheVariants.{Line};
 ghost use Rattle.door_events.specs.Writes.{held_count, held_bytes, held_write};
 
@@ -16,13 +16,24 @@ fn held_count(n: usize) -> u8
     n.min(WRITE_LIMIT + 1) as u8
 }
 
+// A lent byte, and 0 behind the last one.
+fn byte_at(bytes: &[u8], k: usize) -> u8
+    ensures { result ≡ get_or bytes.now k 0 }
+{
+    if k < bytes.len() {
+        return bytes[k];
+    }
+    0
+}
+
 // The lent bytes, as many as a write can carry, and 0 where there are fewer.
 fn held_bytes(bytes: &[u8]) -> [u8; WRITE_LIMIT]
     ensures { result ≡ held_bytes bytes.now }
 {
     let mut held = [0; WRITE_LIMIT];
-    let n = bytes.len().min(WRITE_LIMIT);
-    held[..n].copy_from_slice(&bytes[..n]);
+    for (k, byte) in held.iter_mut().enumerate() {
+        *byte = byte_at(bytes, k);
+    }
     held
 }
 

@@ -1,34 +1,24 @@
 -- What shows again after a read: flag by flag, and nothing where no flag byte was read or nothing is on. Assumes nothing.
-use mathlib.Core.Path.{◌≡◌, refl, sym, ap, ◌∙◌}
-use mathlib.Core.Bool.{Bool, false, not}
-use mathlib.Core.List.{List, [], ◌∷◌}
+use mathlib.Core.Path.{◌≡◌, sym, ap, ◌∙◌}
+use mathlib.Core.Bool.{false, not}
 use Prim.Native.Nat.{ℕ, ◌+◌, ◌<◌}
 use native.Mathlib.Omega.{arith}
 use lib.Dec.{eqb, ltb}
-use lib.ListN.{length, get_or}
 use borrow.Author.Tests.{not-false, eqb-true, leb-true, ltb-true, lt-ltb}
 use Rattle.bits.specs.Lane.{lane_field}
-use Rattle.std.specs.List.{list_any}
-use Rattle.bits.specs.Choice.{both, either}
+use Rattle.bits.specs.Choice.{both}
 use Rattle.bits.specs.Loop.{each, any_below}
 use Rattle.bits.specs.Place.{put}
 use Rattle.bits.specs.Sets.{lane_count, has}
 use Rattle.bits.proofs.Loops.{each_skip, any_none}
-use Rattle.bits.proofs.Members.{any_front}
 use Rattle.bits.proofs.Masks.{has-mask}
 use Rattle.bits.proofs.Sets.{has-zero}
-use Rattle.bits.proofs.Tests.{both_l, both_r, both_i, clash, or_either}
+use Rattle.bits.proofs.Tests.{both_l, both_r, both_i, clash}
 use Rattle.model.specs.Map.{Image, flag_bytes, flag_byte_count, on, page11, lasting_count, lasting_flag}
 use Rattle.model.specs.Records.{on_at, on_lanes}
 use Rattle.model.specs.Registers.{with_flags}
 use Rattle.model.specs.Flags.{is_read, shown_again_image}
 use Rattle.model.specs.declared.lane.Working.{Working}
-
--- a test of the values of a list is one of its places
-pub any_list : {A : Type 0} (p : A → Bool) (d : A) (xs : List A) → list_any p xs ≡ any_below (length xs) (λ k. p (get_or xs k d))
-unfolding any_below
-any_list p d [] = refl
-any_list p d (x ∷ xs) = or_either _ _ ∙ ap (either (p x)) (any_list p d xs) ∙ sym (any_front (length xs) (λ k. p (get_or (x ∷ xs) k d)))
 
 -- one flag
 pub flag_shown : (w : Working) (k at lanes : ℕ) (x y : Image) → at ≡ on page11 (lasting_flag k) → lanes ≡ on_lanes w k

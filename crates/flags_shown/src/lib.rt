@@ -15,7 +15,7 @@ use model::lane::{LaneRecord, Working};
 fn is_any_on(w: Working) -> bool
     ensures { result ≡ any_below lane_count (λ l. not (eqb (on_at w l) 0)) }
 {
-    w.lanes.iter().any(|record| record.on != 0)
+    (0..LaneRecord::COUNT).any(|lane| records::on_at(w, lane) != 0)
 }
 
 // The lanes on which a flag is on.

@@ -1,7 +1,7 @@
 // The working state in the front of a lent buffer: whether its bytes are one, and what they are read as.
 #![tactic(auto)]
 
-ghost use Rattle.std.specs.Prelude.{◌≡◌, ◌<◌, ◌≤◌, length};
+ghost use Rattle.std.specs.Prelude.{◌≡◌, ◌<◌, ◌≤◌, length, take};
 ghost use Rattle.bits.specs.Sets.{lane_count};
 ghost use Rattle.packing.specs.Packing.{state_length, lane_bytes, unpacked, is_packing};
 
@@ -14,7 +14,9 @@ fn lane_bytes(state: &[u8; STATE_LENGTH], lane: u8) -> [u8; RECORD_LENGTH]
     ensures { result ≡ lane_bytes state.now lane }
 {
     let at = lane as usize * RECORD_LENGTH;
-    *state[at..at + RECORD_LENGTH].as_array().unwrap()
+    let mut bytes = [0u8; RECORD_LENGTH];
+    bytes.copy_from_slice(&state[at..at + RECORD_LENGTH]);
+    bytes
 }
 
 // Whether bytes are a working state's.
@@ -27,14 +29,23 @@ fn is_packed(state: &[u8; STATE_LENGTH]) -> bool
     good & (state[LINE_INDEX] < 2)
 }
 
+// The front of a buffer, as many bytes as a working state's.
+fn front(state: &[u8]) -> &[u8; STATE_LENGTH]
+    requires { state_length ≤ length state.now }
+    ensures { result.now ≡ take state_length state.now }
+{
+    let (fronts, _) = state.as_chunks();
+    &fronts[0]
+}
+
 // Whether the front of a buffer is a working state's bytes.
 pub fn is_packing(state: &[u8]) -> bool
     ensures { result ≡ is_packing state.now }
 {
-    let Some(front) = state.first_chunk() else {
+    if state.len() < STATE_LENGTH {
         return false;
-    };
-    is_packed(front)
+    }
+    is_packed(front(state))
 }
 
 // The working state that bytes are read as, whether they are one's or not.
@@ -54,5 +65,5 @@ pub fn unpack(state: &[u8]) -> Working
     requires { state_length ≤ length state.now }
     ensures { result ≡ unpacked state.now }
 {
-    unpacked(state.first_chunk().unwrap())
+    unpacked(front(state))
 }

@@ -1,19 +1,16 @@
--- The bytes of a read, taken one by one or as a part of the image. Assumes nothing.
+-- The bytes of a read, taken one by one. Assumes nothing.
 use Rattle.std.proofs.Common.{None, Some}
 use mathlib.Core.Path.{◌≡◌, refl, sym, ap, ◌∙◌}
 use mathlib.Core.Bool.{false}
-use mathlib.Core.List.{List, [], ◌∷◌, ◌++◌}
-use Prim.Native.Nat.{ℕ, zero, suc, ◌+◌, ◌-◌, ◌≤◌, ◌<◌}
+use mathlib.Core.List.{List, [], ◌∷◌}
+use Prim.Native.Nat.{ℕ, zero, suc, ◌+◌, ◌<◌}
 use native.Mathlib.Nat.{le_of_suc-le-suc, not-suc-le-zero}
 use native.Mathlib.Numerals.{add-one}
 use native.Mathlib.Omega.{arith}
 use borrow.Author.Tests.{ne_eqb, leb-false}
-use lib.ListN.{length, get_or, set, take, drop}
-use lib.Seq.{length-take-le}
-use Rattle.std.proofs.lemmas.List.{get_or-drop, length-drop}
+use lib.ListN.{length, get_or, set}
 use Rattle.bits.specs.Choice.{pick}
 use Rattle.bits.specs.Loop.{tab}
-use Rattle.bits.proofs.Loops.{tab_ext}
 use Rattle.bits.proofs.Tests.{either_l, either_r}
 use Rattle.model.specs.Map.{Image, module_controls, trigger_at, is_trigger}
 use Rattle.model.specs.Access.{without_reset, shown_byte, taken_bytes}
@@ -58,20 +55,7 @@ pub take_turn : (x : Image) (i n : ℕ) (buffer b : List ℕ) → n < length buf
 unfolding taken_bytes
 take_turn x i n buffer b l e = rw (add-one n, e) (lay_one (λ k. shown_byte x (i + k)) n buffer l)
 
--- ---- .. of bytes that meet nothing hidden: a part of the image
-
-part_of : (n : ℕ) (xs : List ℕ) → n ≤ length xs → tab n (λ k. get_or xs k 0) ≡ take n xs
-unfolding tab
-part_of zero xs h = refl
-part_of (suc n) [] h = absurd (omega arith)
-part_of (suc n) (x ∷ xs) h = ap (λ t. x ∷ t) (part_of n xs (omega arith))
-
-pub stored_part : (x : Image) (i n : ℕ) (buffer : List ℕ) → meets_hidden i n ≡ false → i + n ≤ length x
-    → take (i + n - i) (drop i x) ++ drop n buffer ≡ laid_over (taken_bytes x i n) buffer
-unfolding taken_bytes laid_over
-stored_part x i n buffer e h =
-    let part : tab n (λ k. shown_byte x (i + k)) ≡ take n (drop i x) =
-    tab_ext n _ _ (λ k b. shown_stored x i n k e b ∙ sym (get_or-drop i x k 0)) ∙ part_of n (drop i x) (omega (arith, length-drop i x)) in
-    let long : length (take n (drop i x)) ≡ n = length-take-le n (drop i x) (omega (arith, length-drop i x)) in
-    let whole : i + n - i ≡ n = omega arith in
-    rw (whole, part, long)
+-- .. of bytes that meet nothing hidden
+pub stored_turn : (x : Image) (i m n : ℕ) (buffer b : List ℕ) → meets_hidden i m ≡ false → n < m → n < length buffer → b ≡ laid_over (taken_bytes x i n) buffer
+    → set b n (get_or x (i + n) 0) ≡ laid_over (taken_bytes x i (n + 1)) buffer
+stored_turn x i m n buffer b e h l p = ap (set b n) (sym (shown_stored x i m n e h)) ∙ take_turn x i n buffer b l p

@@ -47,7 +47,9 @@ fn take_stored(image: &[u8], first: usize, count: usize, buffer: &mut [u8])
     requires { (first + count ≤ length image.now) × (count ≤ length buffer.old) × (meets_hidden first count ≡ false) }
     ensures { buffer.new ≡ laid_over (taken_bytes image.now first count) buffer.old }
 {
-    buffer[..count].copy_from_slice(&image[first..first + count]);
+    for (k, byte) in buffer[..count].iter_mut().enumerate() {
+        *byte = image[first + k];
+    }
 }
 
 // The bytes at an offset from a start, as a read shows them, into the front of the buffer.

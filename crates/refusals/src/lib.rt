@@ -6,15 +6,17 @@ ghost use Rattle.model.specs.State.{state_with};
 ghost use Rattle.model.specs.Refusals.{first_of, entry_refusals};
 
 use model::answer::Answer;
+use model::image::IMAGE_LENGTH;
 use model::lane::Working;
 
 // The first of the refusals 1, 2 and 3 that applies, or Done.
 pub fn refusal(image: &[u8], w: Working) -> Answer
     ensures { result ≡ first_of (entry_refusals (state_with image.now w)) }
 {
-    let Some(image) = image.as_array() else {
+    if image.len() != IMAGE_LENGTH {
         return Answer::WrongLength;
-    };
+    }
+    let image = start_image::whole(image);
     if start_image::is_flat(image) {
         return Answer::FlatMemory;
     }

@@ -1,13 +1,14 @@
 // Start: the images that it refuses, what stays of one that it takes, and what is set.
 #![tactic(auto)]
 
-ghost use Rattle.std.specs.Prelude.{◌≡◌};
+ghost use Rattle.std.specs.Prelude.{◌≡◌, length};
+ghost use Rattle.model.specs.Map.{image_length};
 ghost use Rattle.model.specs.Refusals.{first_of, is_flat, is_back_to_front, start_refusals};
 ghost use Rattle.model.specs.Start.{start_value, started_state};
 
 use bits::Place;
 use model::answer::Answer;
-use model::image::Image;
+use model::image::{IMAGE_LENGTH, Image};
 
 // Whether the memory is flat: MemoryModel, lower 2.7.
 pub fn is_flat(image: &Image) -> bool
@@ -32,13 +33,23 @@ fn is_back_to_front(image: &Image) -> bool
     (low_alarm > low_warning) | ((low_warning > high_warning) | (high_warning > high_alarm))
 }
 
+// Bytes as many as an image has, as one.
+pub fn whole(bytes: &[u8]) -> &Image
+    requires { length bytes.now ≡ image_length }
+    ensures { result.now ≡ bytes.now }
+{
+    let (images, _) = bytes.as_chunks();
+    &images[0]
+}
+
 // What start has against an image, or that it takes it.
 pub fn refusal(image: &[u8]) -> Answer
     ensures { result ≡ first_of (start_refusals image.now) }
 {
-    let Some(image) = image.as_array() else {
+    if image.len() != IMAGE_LENGTH {
         return Answer::WrongLength;
-    };
+    }
+    let image = whole(image);
     if is_flat(image) {
         return Answer::FlatMemory;
     }

@@ -4,6 +4,4 @@ use Rattle.packing.proofs.States.{lane_run}
 use Rattle.packing_reads.proofs.lane_bytes.Goals as goal
 
 pub returns : goal.returns
-returns c =
-    let taken = rw c.unwrap.ensures at c.as_array.ensures.cases in
-    taken.same ∙ lane_run c.args.state.now c.args.lane _ _ refl (omega arith) (omega arith)
+returns c = c.copy_from_slice.ensures.after ∙ lane_run c.args.state.now c.args.lane _ _ refl (omega arith) (omega arith)

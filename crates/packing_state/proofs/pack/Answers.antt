@@ -2,7 +2,7 @@ use mathlib.Core.Path.{◌≡◌, ◌∙◌}
 use native.Mathlib.Omega.{arith}
 use Rattle.bits.specs.Sets.{lane_count}
 use Rattle.packing.proofs.Laid.{lay_none}
-use Rattle.packing.proofs.States.{lane_turn, line_laid, packed-whole}
+use Rattle.packing.proofs.States.{lane_turn, line_laid}
 use Rattle.packing_state.proofs.pack.Goals as goal
 
 pub loop-lane-init : goal.loop-lane-init
@@ -15,4 +15,4 @@ loop-lane-preserved c =
 pub returns : goal.returns
 returns c =
     let e : c.loop-lane.lane ≡ lane_count = omega arith in
-    line_laid c.args.w c.args.state.now _ (omega arith) (rw e at c.loop-lane.invariant) ∙ packed-whole c.args.w c.args.state.now c.told-state
+    line_laid c.args.w c.args.state.now _ (omega arith) (rw e at c.loop-lane.invariant)

@@ -1,9 +1,19 @@
-use mathlib.Core.Path.{ap, ◌∙◌}
-use mathlib.Core.List.{◌++◌}
-use lib.ListN.{drop}
-use Rattle.pages_window.proofs.Taking.{stored_part}
+use mathlib.Core.Path.{sym, ◌∙◌}
+use native.Mathlib.Omega.{arith}
+use Prim.Native.Nat.{◌<◌}
+use lib.ListN.{length, drop}
+use lib.Seq.{length-take-le}
+use Rattle.std.proofs.lemmas.List.{take-append-drop, set-append_left}
+use Rattle.pages_window.proofs.Taking.{take_begin, stored_turn}
 use Rattle.pages_window.proofs.take_stored.Goals as goal
 
-pub returns : goal.returns
-returns c = ap (λ t. t ++ drop c.args.count c.args.buffer.now) c.copy_from_slice.ensures.after
-    ∙ stored_part c.args.image.now c.args.first c.args.count c.args.buffer.now c.requires.2 c.requires.0
+pub loop-k-init : goal.loop-k-init
+loop-k-init c = take-append-drop c.args.count c.args.buffer.now ∙ take_begin _ _ _
+
+pub loop-k-preserved : goal.loop-k-preserved
+loop-k-preserved c =
+    let l = c.loop-k in
+    let long = length-take-le c.args.count c.args.buffer.now c.requires.1 in
+    let inside : l.k < length l.byte-items = omega arith in
+    sym (set-append_left l.byte-items (drop c.args.count c.args.buffer.now) l.k _ inside)
+    ∙ stored_turn _ _ _ _ _ _ c.requires.2 (omega (arith, long)) (omega (arith, long)) l.invariant
