@@ -29,7 +29,7 @@ impl PathState {
 
     pub const DEACTIVATED: u8 = 1;
 
-    const INIT: u8 = 2;
+    pub const INIT: u8 = 2;
 
     const DEINIT: u8 = 3;
 

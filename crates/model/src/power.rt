@@ -19,7 +19,7 @@ impl ModuleState {
 
     const PWR_UP: u8 = 2;
 
-    const READY: u8 = 3;
+    pub const READY: u8 = 3;
 
     const PWR_DN: u8 = 4;
 }

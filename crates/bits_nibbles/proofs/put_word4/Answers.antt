@@ -1,4 +1,4 @@
-use mathlib.Core.Path.{◌≡◌, sym, ◌∙◌}
+use mathlib.Core.Path.{◌≡◌, refl, sym, ◌∙◌}
 use mathlib.Core.List.{List, [], ◌∷◌, append_assoc}
 use Prim.Native.Nat.{ℕ, ◌+◌, ◌/◌, ◌%◌, ◌≤◌}
 use native.Mathlib.Numerals.{unary_clauses}
@@ -20,4 +20,4 @@ pub returns : goal.returns
 unfolding put_low4
 returns c =
     let e : c.args.v / 16777216 % 256 ≡ c.args.v / 16777216 = omega arith in
-    rw (← e) (four_stores _ _ _ _ _ _ _ _ (omega arith) c.requires (c.copy_from_slice.ensures.after ∙ c.to_le_bytes.ensures))
+    rw (← e) (four_stores _ _ _ _ _ _ _ _ (omega arith) c.requires (c.copy_from_slice.ensures.after ∙ rw c.to_le_bytes.ensures refl))
