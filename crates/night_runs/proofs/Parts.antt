@@ -1,7 +1,7 @@
 -- Laws of the part of a file that is its records: its chunks are the records. Assumes nothing.
 use mathlib.Core.Path.{◌≡◌, ap, ◌∙◌}
 use mathlib.Core.List.{List, []}
-use Prim.Native.Nat.{ℕ, ◌+◌, ◌-◌, ◌*◌, ◌/◌, ◌≤◌, ◌<◌}
+use Prim.Native.Nat.{ℕ, ◌+◌, ◌-◌, ◌*◌, ◌≤◌, ◌<◌}
 use native.Mathlib.Omega.{arith}
 use lib.ListN.{length, get_or, take, drop, length-drop}
 use lib.Seq.{length-take-le, take_all, drop-drop}
@@ -33,8 +33,13 @@ module _ (file : List ℕ) (offset : ℕ) where
         ∙ ap (take record_length) (drop-drop (record_length * k) offset file ∙ ap (λ m. drop m file) (start k))
 
     -- each of them lies whole in the file
-    pub record-whole : (count k : ℕ) → offset + record_length * count ≤ length file → k < count → record_length ≤ length (record_in file k)
+    record-whole : (count k : ℕ) → offset + record_length * count ≤ length file → k < count → record_length ≤ length (record_in file k)
     unfolding record_in
     record-whole count k h l =
         let there : record_length ≤ length (drop (record_start file k) file) = omega (arith, length-drop (record_start file k) file, start k) in
         omega (arith, length-take-le record_length (drop (record_start file k) file) there)
+
+    -- so is every chunk that is one of them
+    pub chunk-whole : (records : List (List ℕ)) (n k count : ℕ) → records ≡ first_chunks record_length n rest → k < n → offset + record_length * count ≤ length file → k < count
+        → record_length ≤ length (get_or records k [])
+    chunk-whole records n k count e h room l = rw (chunk-record records n k e h) (record-whole count k room l)

@@ -1,6 +1,5 @@
-use mathlib.Core.Path.{refl, sym, ap, ◌∙◌}
+use mathlib.Core.Path.{refl, sym, ◌∙◌}
 use Rattle.bits.specs.Loop.{all_below}
-use Rattle.model.specs.File.{later_editions, edition_among}
 use Rattle.night_records.proofs.Records.{named_again}
 use Rattle.night_file.proofs.Checks.{all_turn, all_fails}
 use Rattle.night_file.proofs.are_records.Goals as goal

@@ -1,7 +1,6 @@
 use mathlib.Core.Path.{ap, ◌∙◌, sym}
 use Rattle.model.specs.File as file
 use Rattle.model.specs.File.{later_editions, edition_among}
-use Prim.Native.Nat.{ℕ}
 use Rattle.night_file.proofs.Cuts.{night_cut}
 use Rattle.night_file.proofs.parts.Goals as goal
 

@@ -1,10 +1,9 @@
 use native.Mathlib.Omega.{arith}
-use mathlib.Core.Path.{◌≡◌, refl, ◌∙◌}
+use mathlib.Core.Path.{◌≡◌, ◌∙◌}
 use lib.ListN.{length}
 use Rattle.night_buffers.proofs.Buffers.{gives_none, gives_text}
 use Rattle.night_runs.proofs.Good.{good_file_lem}
 use Rattle.night_replay.proofs.Files.{prints-night}
-use borrow.Author.Rules.{rules}
 use Rattle.night_replay.proofs.print_good.Goals as goal
 
 pub returns-then-out-count : goal.returns-then-out-count

@@ -1,15 +1,9 @@
 use native.Mathlib.Omega.{arith}
-use mathlib.Core.Path.{◌≡◌, ap, ◌∙◌}
-use Rattle.model.specs.Work.{early}
-use Rattle.model.specs.Step.{step}
 use Rattle.model.specs.State.{state_with}
-use Rattle.model.specs.Outcome.{list_room}
-use Rattle.model.specs.File.{later_editions, edition_among, event_of}
 use Rattle.night_text.proofs.Laid.{puts_within}
 use Rattle.night_text.proofs.Lines.{length_any_index}
-use Rattle.night_runs.proofs.Parts.{rest-length, chunk-record, record-whole}
+use Rattle.night_runs.proofs.Parts.{rest-length, chunk-record, chunk-whole}
 use Rattle.night_runs.proofs.Turns.{state-none, text-none, turn_state, turn_text, turn_room}
-use borrow.Author.Rules.{rules}
 use Rattle.night_runs.proofs.play_run.Goals as goal
 
 pub loop-k-init : goal.loop-k-init
@@ -24,9 +18,8 @@ loop-k-init c = let a = c.args in
 
 pub turn-reached-requires : goal.turn-reached-requires
 turn-reached-requires c = let a = c.args in
-    let k = c.loop-k.k in
-    let part = chunk-record a.file.now a.offset c.requires.0 _ _ k c.as_chunks.ensures.front (omega (arith, rest-length a.file.now a.offset)) in
-    (rw part (record-whole a.file.now a.offset c.requires.0 a.count k c.requires.1 c.loop-k-test.true), omega (arith, length_any_index k))
+    let there = rest-length a.file.now a.offset in
+    (chunk-whole a.file.now a.offset c.requires.0 _ _ _ a.count c.as_chunks.ensures.front (omega (arith, there)) c.requires.1 (omega arith), omega (arith, length_any_index c.loop-k.k))
 
 pub loop-k-preserved : goal.loop-k-preserved
 loop-k-preserved c = let a = c.args in
