@@ -36,11 +36,11 @@ fn print_lines(
     requires { (file_check file.now ≡ Ok count) × (longest_line ≤ length out.old) }
 {
     let offset = night_file::records_offset(file);
-    night_runs::start_image(file, offset, image);
+    night_runs::start_file_image(file, offset, image);
     let mut working = Working::idle();
     let mut next = 0;
     while next < count {
-        let come = night_runs::play_run(image, working, file, offset, next, count, out);
+        let come = night_runs::play_file_run(image, working, file, offset, next, count, out);
         rt.write_all(&out[..come.reached.at])?;
         next = come.next;
         working = come.reached.working;

@@ -25,7 +25,7 @@ fn print_good(file: &[u8], count: u32, out: &mut [u8]) -> Option<usize>
     let mut image = [0u8; IMAGE_LENGTH];
     let mut buffer = [0u8; READ_LIMIT];
     let offset = night_file::records_offset(file);
-    night_runs::start_image(file, offset, &mut image);
+    night_runs::start_file_image(file, offset, &mut image);
     let night = night_file::parts(file);
     let n = night_play::play(&mut image, &mut buffer, night, out);
     Some(n)

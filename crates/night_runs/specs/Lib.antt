@@ -1,2 +1,3 @@
--- A night file's records in runs.
+-- A night's records in runs: in its parts, and in a file.
+pub mod FileRunning
 pub mod Running

@@ -12,8 +12,8 @@ returns-then-out-count c = gives_none c.if-out-count.true
 pub records_offset-offset-requires : goal.records_offset-offset-requires
 records_offset-offset-requires c = let g = good_file_lem _ _ c.requires in omega (arith, g.whole)
 
-pub start_image-requires : goal.start_image-requires
-start_image-requires c = let g = good_file_lem _ _ c.requires in
+pub start_file_image-requires : goal.start_file_image-requires
+start_file_image-requires c = let g = good_file_lem _ _ c.requires in
     let begins = c.records_offset-offset.ensures in
     (begins, omega (arith, begins, g.whole))
 
@@ -28,4 +28,4 @@ play-n-requires c = let g = good_file_lem _ _ c.requires in
 pub returns : goal.returns
 returns c = let night = c.parts-night.ensures in
     gives_text c.if-out-count.false
-    (rw (prints-night c.args.file.now c.args.count _ _ c.requires night.named night.counted night.each, ← c.start_image.ensures) c.play-n.ensures)
+    (rw (prints-night c.args.file.now c.args.count _ _ c.requires night.named night.counted night.each, ← c.start_file_image.ensures) c.play-n.ensures)

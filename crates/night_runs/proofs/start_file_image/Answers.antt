@@ -1,7 +1,7 @@
 use mathlib.Core.Path.{ap, ◌∙◌}
 use Rattle.model.specs.Start.{started_state}
 use Rattle.night_file.proofs.Images.{part_image, part_fits}
-use Rattle.night_runs.proofs.start_image.Goals as goal
+use Rattle.night_runs.proofs.start_file_image.Goals as goal
 
 pub lay_out-requires : goal.lay_out-requires
 lay_out-requires c = part_fits c.args.file.now c.args.offset c.requires.0
