@@ -1,4 +1,4 @@
--- Laws of one event more in a run: the state and the text after it, and the room that its line takes. Assumes nothing.
+-- Laws of one event more in a run, wherever the events come from: the state and the text after it, and the room that its line takes. Assumes nothing.
 use mathlib.Core.Path.{◌≡◌, refl, sym, ◌∙◌}
 use mathlib.Core.List.{List, ◌++◌}
 use Prim.Native.Nat.{ℕ, suc, ◌+◌, ◌-◌, ◌≤◌}
@@ -30,10 +30,10 @@ module _ (s : State) (event : ℕ → Event) (first : ℕ) where
   events n = tab n (λ i. event (first + i))
 
   -- the state after n of these, and their text
-  abbrev pub state_after : ℕ → State
+  abbrev state_after : ℕ → State
   state_after n = ending early list_room s (events n)
 
-  abbrev pub text_after : ℕ → List ℕ
+  abbrev text_after : ℕ → List ℕ
   text_after n = lines_from first (run early list_room s (events n))
 
   -- before the first

@@ -1,4 +1,4 @@
--- Laws of one record of a file more in a run: the state and the text after it, and the room that its line takes. Assumes nothing.
+-- Laws of one record more in a run over a file: the state and the text after it, and the room that its line takes. Assumes nothing.
 use mathlib.Core.Path.{◌≡◌}
 use mathlib.Core.List.{List}
 use Prim.Native.Nat.{ℕ, ◌+◌, ◌-◌, ◌≤◌}
@@ -24,17 +24,17 @@ unfolding file_text_from file_events_from
 text-none s file out first n e = events.text-none s (event_in file) first out n e
 
 -- a turn of the loop over the records
-module _ (s : State) (file : List ℕ) (first k : ℕ) (past : first ≤ k) where
-  module _ (image buffer buffer_left out after left : List ℕ) (w : Working) (at : ℕ) (r : Reached) (reached : state_with image w ≡ file_state_from s file first (k - first))
-      (turned : Turns (step early list_room (state_with image w) (event_in file k)) k at buffer buffer_left out after left r) where
-    pub turn_state : state_with left r.working ≡ file_state_from s file first (k + 1 - first)
-    unfolding file_state_from file_events_from
-    turn_state = events.turn_state s (event_in file) first k past image buffer buffer_left out after left w at r reached turned
+module _ (s : State) (file : List ℕ) (first k : ℕ) (past : first ≤ k)
+    (image buffer buffer_left out after left : List ℕ) (w : Working) (at : ℕ) (r : Reached) (reached : state_with image w ≡ file_state_from s file first (k - first))
+    (turned : Turns (step early list_room (state_with image w) (event_in file k)) k at buffer buffer_left out after left r) where
+  pub turn_state : state_with left r.working ≡ file_state_from s file first (k + 1 - first)
+  unfolding file_state_from file_events_from
+  turn_state = events.turn_state s (event_in file) first k past image buffer buffer_left out after left w at r reached turned
 
-    pub turn_text : (before : List ℕ) → at ≤ length before → Puts 0 (file_text_from s file first (k - first)) before out at → Puts 0 (file_text_from s file first (k + 1 - first)) before after r.at
-    unfolding file_state_from file_text_from file_events_from
-    turn_text before h p = events.turn_text s (event_in file) first k past image buffer buffer_left out after left w at r reached turned before h p
+  pub turn_text : (before : List ℕ) → at ≤ length before → Puts 0 (file_text_from s file first (k - first)) before out at → Puts 0 (file_text_from s file first (k + 1 - first)) before after r.at
+  unfolding file_state_from file_text_from file_events_from
+  turn_text before h p = events.turn_text s (event_in file) first k past image buffer buffer_left out after left w at r reached turned before h p
 
-    pub turn_room : r.at ≤ at + longest_line
-    unfolding file_state_from file_events_from
-    turn_room = events.turn_room s (event_in file) first k past image buffer buffer_left out after left w at r reached turned
+  pub turn_room : r.at ≤ at + longest_line
+  unfolding file_state_from file_events_from
+  turn_room = events.turn_room s (event_in file) first k past image buffer buffer_left out after left w at r reached turned

@@ -26,17 +26,17 @@ unfolding text_from events_from
 text-none s row records out first n e = events.text-none s (event_in row records) first out n e
 
 -- a turn of the loop over the records
-module _ (s : State) (row : Edition) (records : List (List ℕ)) (first k : ℕ) (past : first ≤ k) where
-  module _ (image buffer buffer_left out after left : List ℕ) (w : Working) (at : ℕ) (r : Reached) (reached : state_with image w ≡ state_from s row records first (k - first))
-      (turned : Turns (step early list_room (state_with image w) (event_in row records k)) k at buffer buffer_left out after left r) where
-    pub turn_state : state_with left r.working ≡ state_from s row records first (k + 1 - first)
-    unfolding state_from events_from
-    turn_state = events.turn_state s (event_in row records) first k past image buffer buffer_left out after left w at r reached turned
+module _ (s : State) (row : Edition) (records : List (List ℕ)) (first k : ℕ) (past : first ≤ k)
+    (image buffer buffer_left out after left : List ℕ) (w : Working) (at : ℕ) (r : Reached) (reached : state_with image w ≡ state_from s row records first (k - first))
+    (turned : Turns (step early list_room (state_with image w) (event_in row records k)) k at buffer buffer_left out after left r) where
+  pub turn_state : state_with left r.working ≡ state_from s row records first (k + 1 - first)
+  unfolding state_from events_from
+  turn_state = events.turn_state s (event_in row records) first k past image buffer buffer_left out after left w at r reached turned
 
-    pub turn_text : (before : List ℕ) → at ≤ length before → Puts 0 (text_from s row records first (k - first)) before out at → Puts 0 (text_from s row records first (k + 1 - first)) before after r.at
-    unfolding state_from text_from events_from
-    turn_text before h p = events.turn_text s (event_in row records) first k past image buffer buffer_left out after left w at r reached turned before h p
+  pub turn_text : (before : List ℕ) → at ≤ length before → Puts 0 (text_from s row records first (k - first)) before out at → Puts 0 (text_from s row records first (k + 1 - first)) before after r.at
+  unfolding state_from text_from events_from
+  turn_text before h p = events.turn_text s (event_in row records) first k past image buffer buffer_left out after left w at r reached turned before h p
 
-    pub turn_room : r.at ≤ at + longest_line
-    unfolding state_from events_from
-    turn_room = events.turn_room s (event_in row records) first k past image buffer buffer_left out after left w at r reached turned
+  pub turn_room : r.at ≤ at + longest_line
+  unfolding state_from events_from
+  turn_room = events.turn_room s (event_in row records) first k past image buffer buffer_left out after left w at r reached turned

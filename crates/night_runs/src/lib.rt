@@ -70,7 +70,7 @@ pub fn start_file_image(file: &[u8], offset: usize, image: &mut Image)
     start_image::reset(image)
 }
 
-// How far the night of a file has come, likewise.
+// How far the night of a file has come: indices of 32 bits, as a header counts records.
 #[derive(Clone, Copy)]
 pub struct FileCome {
     pub next: u32,
@@ -115,14 +115,16 @@ mod tests {
 
     const ROOM: usize = LONGEST_LINE + 6;
 
-    // Two reads of lower 3, which a start leaves at 03h: the output has room for one line a run.
+    // Reads of lower 0, which the night carries, and of lower 3, which a start leaves at 03h: the output has room for one line a run.
     #[test]
     fn a_night_in_its_parts_is_played_in_runs(rt: HostRuntime) {
-        let read = [2, 3, 1, 0, 0, 0, 0, 0, 0, 0, 0, 0];
-        let records = [read, read];
+        let records = [
+            [2, 0, 1, 0, 0, 0, 0, 0, 0, 0, 0, 0],
+            [2, 3, 1, 0, 0, 0, 0, 0, 0, 0, 0, 0],
+        ];
         let night = Night {
             edition: Edition::Fourth,
-            image: &[],
+            image: &[0x18],
             records: &records,
         };
         let mut image = [255u8; IMAGE_LENGTH];
@@ -130,7 +132,7 @@ mod tests {
         start_image(night.image, &mut image);
         let come = play_run(&mut image, Working::idle(), night, 0, &mut out);
         assert_eq!(rt; come.next, 1);
-        assert!(rt; out.starts_with(b"0 0 03\n"));
+        assert!(rt; out.starts_with(b"0 0 18\n"));
         assert_eq!(rt; come.reached.at, 7);
         let come = play_run(&mut image, come.reached.working, night, 1, &mut out);
         assert_eq!(rt; come.next, 2);

@@ -5,7 +5,6 @@ use Rattle.night_records.proofs.Records.{named_again}
 use Rattle.night_text.proofs.Laid.{puts_within}
 use Rattle.night_text.proofs.Lines.{length_any_index}
 use Rattle.night_runs.proofs.Turns.{state-none, text-none, turn_state, turn_text, turn_room}
-use borrow.Author.Rules.{rules}
 use Rattle.night_runs.proofs.play_run.Goals as goal
 
 pub loop-k-init : goal.loop-k-init
